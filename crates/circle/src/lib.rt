@@ -1,0 +1,66 @@
+// The circle in whole numbers: cosines and sines times 2^30, twiddles of any scale, the spread of a scale.
+// Angles are counted in 256ths of a turn.
+ghost use mathlib.Core.Path.{_≡_};
+ghost use Prim.Native.Nat.{_^_, _≤_, _*_, _+_};
+ghost use Rattle.circle.specs.Circle.{circle, cosine as cosineOf, sine as sineOf, inQuarter};
+ghost use Rattle.circle.specs.Spread.{spread as spreadOf};
+
+// A point of the circle: cosine and sine times 2^30.
+#[derive(Clone, Copy)]
+struct Point {
+    cos: u32,
+    sin: u32,
+}
+
+// The first eighth of the circle, from 0 to 32: cosine and sine.
+const EIGHTH: [(u32, u32); 33] = [
+    (1_073_741_824, 0),
+    (1_073_418_433, 26_350_943),
+    (1_072_448_455, 52_686_014),
+    (1_070_832_474, 78_989_349),
+    (1_068_571_464, 105_245_103),
+    (1_065_666_786, 131_437_462),
+    (1_062_120_190, 157_550_647),
+    (1_057_933_813, 183_568_930),
+    (1_053_110_176, 209_476_638),
+    (1_047_652_185, 235_258_165),
+    (1_041_563_127, 260_897_982),
+    (1_034_846_671, 286_380_643),
+    (1_027_506_862, 311_690_799),
+    (1_019_548_121, 336_813_204),
+    (1_010_975_242, 361_732_726),
+    (1_001_793_390, 386_434_353),
+    (992_008_094, 410_903_207),
+    (981_625_251, 435_124_548),
+    (970_651_112, 459_083_786),
+    (959_092_290, 482_766_489),
+    (946_955_747, 506_158_392),
+    (934_248_793, 529_245_404),
+    (920_979_082, 552_013_618),
+    (907_154_608, 574_449_320),
+    (892_783_698, 596_538_995),
+    (877_875_009, 618_269_337),
+    (862_437_520, 639_627_258),
+    (846_480_531, 660_599_890),
+    (830_013_654, 681_174_602),
+    (813_046_808, 701_339_000),
+    (795_590_213, 721_080_937),
+    (777_654_384, 740_388_522),
+    (759_250_125, 759_250_125),
+];
+
+// The point at v, in the first eighth.
+fn eighth(v: usize) -> Point
+    requires { ⌜ v ≤ 32 ⌝ }
+    ensures { λ r. ⌜ r ≡ circle v ⌝ }
+{
+    let (cos, sin) = EIGHTH[v];
+    Point { cos, sin }
+}
+
+// The spread of a twiddle scale: 3·scale/2 rounded down, plus 1.
+pub fn spread(scale: u32) -> u64
+    ensures { λ r. ⌜ r ≡ spreadOf scale ⌝ }
+{
+    3 * scale as u64 / 2 + 1
+}
