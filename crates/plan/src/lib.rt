@@ -1,0 +1,18 @@
+// Plans: which transform, of which size, at which scales; and what its lines mean.
+mod figures;
+mod making;
+mod meaning;
+mod method;
+mod plan;
+mod sizes;
+
+pub use figures::Figures;
+pub use figures::FiguresDebug;
+pub use figures::FiguresEq;
+pub use figures::FiguresPartialEq;
+pub use method::Method;
+pub use method::MethodDebug;
+pub use method::MethodEq;
+pub use method::MethodPartialEq;
+pub use plan::Plan;
+pub use sizes::MethodDisplay;
