@@ -1,1 +1,3 @@
 pub mod Table
+pub mod Nearest
+pub mod Circle

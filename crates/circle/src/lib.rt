@@ -2,7 +2,7 @@
 // Angles are counted in 256ths of a turn.
 ghost use mathlib.Core.Path.{_≡_};
 ghost use Prim.Native.Nat.{_^_, _≤_, _*_, _+_};
-ghost use Rattle.circle.specs.Circle.{circle, cosine as cosineOf, sine as sineOf, inQuarter};
+ghost use Rattle.circle.specs.Circle.{circle, cosine as cosineOf, sine as sineOf, inQuarter, CircleDetermined};
 ghost use Rattle.circle.specs.Spread.{spread as spreadOf};
 
 // A point of the circle: cosine and sine times 2^30.
@@ -56,6 +56,43 @@ fn eighth(v: usize) -> Point
 {
     let (cos, sin) = EIGHTH[v];
     Point { cos, sin }
+}
+
+// The point at v, in the first quarter.
+fn quarter(v: usize) -> Point
+    requires { ⌜ v ≤ 64 ⌝ }
+    ensures { λ r. ⌜ r ≡ circle v ⌝ }
+{
+    if v <= 32 {
+        eighth(v)
+    } else {
+        let image = eighth(64 - v);
+        Point {
+            cos: image.sin,
+            sin: image.cos,
+        }
+    }
+}
+
+// The cosine at v times 2^30; none past a quarter of a turn.
+pub fn cosine(v: usize) -> Option<u32>
+    ensures { λ r. ⌜ r ≡ inQuarter v (cosineOf v) ⌝ }
+{
+    if v <= 64 { Some(quarter(v).cos) } else { None }
+}
+
+// The sine at v times 2^30; none past a quarter of a turn.
+pub fn sine(v: usize) -> Option<u32>
+    ensures { λ r. ⌜ r ≡ inQuarter v (sineOf v) ⌝ }
+{
+    if v <= 64 { Some(quarter(v).sin) } else { None }
+}
+
+// The rules of the circle have exactly one solution, which `cosine` and `sine` answer.
+pub fn circle_is_determined() -> u8
+    ensures { λ _. ⌜ CircleDetermined ⌝ }
+{
+    0
 }
 
 // The spread of a twiddle scale: 3·scale/2 rounded down, plus 1.
