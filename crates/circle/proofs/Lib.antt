@@ -1,3 +1,5 @@
 pub mod Table
 pub mod Nearest
 pub mod Circle
+pub mod Turns
+pub mod Fine
