@@ -3,3 +3,4 @@ pub mod Nearest
 pub mod Circle
 pub mod Turns
 pub mod Fine
+pub mod Twiddle

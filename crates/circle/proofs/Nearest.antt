@@ -34,3 +34,30 @@ quotient-unique a b r t p q =
     let h : r ≤ t = quotient-le a b r t p q in
     let k : t ≤ r = quotient-le a b t r q p in
     omega arith
+
+-- only 0 is nearest to 0
+quotient-zero : (b r : ℕ) → NearestQuotient 0 b r → r ≡ 0
+quotient-zero b r p =
+    let h : 0 < b = p .positive in
+    quotient-unique 0 b r 0 p (record { positive = h; above = omega arith; below = omega arith })
+
+same-size : (a : ℤ) (b : ℕ) (r t : ℤ) → NearestSigned a b r → NearestSigned a b t → natAbs r ≡ natAbs t
+same-size a b r t p q = quotient-unique _ _ _ _ (p .size) (q .size)
+
+none : (a : ℤ) (b : ℕ) (r : ℤ) → natAbs a ≡ 0 → NearestSigned a b r → natAbs r ≡ 0
+none a b r e p = quotient-zero b (natAbs r) (rw e at (p .size))
+
+pub signed-unique : (a : ℤ) (b : ℕ) (r t : ℤ) → NearestSigned a b r → NearestSigned a b t → r ≡ t
+signed-unique a b r t p q =
+    let e : natAbs r ≡ natAbs t = same-size a b r t p q in
+    let f : natAbs a ≡ 0 → natAbs r ≡ 0 = λ z. none a b r z p in
+    elim (p .sign) [
+      | inl x ↦ elim (q .sign) [
+        | inl y ↦ omega (arith, ints)
+        | inr y ↦ let z : natAbs r ≡ 0 = f (omega (arith, ints)) in omega (arith, ints)
+      ]
+      | inr x ↦ elim (q .sign) [
+        | inl y ↦ let z : natAbs r ≡ 0 = f (omega (arith, ints)) in omega (arith, ints)
+        | inr y ↦ omega (arith, ints)
+      ]
+    ]
