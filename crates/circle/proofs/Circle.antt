@@ -9,7 +9,7 @@ use lib.Dec.{T, leb, ltb, eqb, leb→le, nleb→lt, ltb→lt, eqb→eq}
 use Rattle.circle.specs.declared.Point.{Point}
 use Rattle.circle.specs.Nearest.{NearestRoot, NearestQuotient}
 use Rattle.circle.specs.Circle.{Circle, CircleDetermined, circle, cosine, sine, point, mirrored, halved, nearestRoot, floorRoot}
-use Rattle.circle.proofs.Nearest.{root-unique, quotient-unique}
+use Rattle.circle.proofs.Unique.{root-unique, quotient-unique}
 use Rattle.circle.proofs.Table.{both, both-left, both-right, values, every, every-at}
 
 abbrev pointOf : ℕ → ℕ → Point

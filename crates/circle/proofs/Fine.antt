@@ -9,6 +9,7 @@ use lib.Dec.{T, leb, leb→le}
 use lib.IntN.{ℤ, pos, negsuc, negℤ, natAbs, _-ℤ_}
 use Rattle.integers.specs.declared.Complex.{Complex}
 use Rattle.integers.specs.Complex.{complex, quarterTurn, _⊗_}
+use Rattle.circle.specs.declared.Point.{Point}
 use Rattle.circle.specs.Near.{Near, sizes, multiple, turned}
 use Rattle.circle.specs.Circle.{Circle, circle, cosine, sine, point, halved, nearestRoot, floorRoot}
 use Rattle.circle.specs.Fine.{FineTwiddles, FineDetermined, FineProducts, fine}
@@ -91,6 +92,14 @@ unfolding isShort
 fine-sizes u =
     let h : sizes (fine (u % 64)) ≤ 3 * 2 ^ 29 = leb→le _ _ (shorts (u % 64) (omega arith)) in
     rw (fine-split u, sizes-turned) h
+
+-- what is turned as often as u stands past the first quarter is the fine twiddle at u
+pub fine-found : (u k : ℕ) (p : Point) (a b : ℤ) → p ≡ circle (u % 64) → u / 64 % 4 ≡ k → complex a b ≡ turned k (complex (pos (p .cos)) (negℤ (pos (p .sin)))) → record { value : complex a b ≡ fine u; size : sizes (complex a b) ≤ 3 * 2 ^ 29 }
+unfolding fine
+fine-found u k p a b e f g =
+    let h : complex a b ≡ fine u =
+    g ∙ ap (λ (q : Point). turned k (complex (pos (q .cos)) (negℤ (pos (q .sin))))) e ∙ ap (λ (n : ℕ). turned n (firstQuarter (u % 64))) (sym f) in
+    record { value = h; size = subst (λ (x : Complex). sizes x ≤ 3 * 2 ^ 29) (sym h) (fine-sizes u) }
 
 -- products: one computed test of the first quarter's pairs, carried on by turns
 isProduct : Complex → Complex → Complex → Bool

@@ -1,6 +1,7 @@
 pub mod Table
-pub mod Nearest
+pub mod Unique
 pub mod Circle
 pub mod Turns
 pub mod Fine
-pub mod Twiddle
+pub mod Twiddles
+pub mod Figures
