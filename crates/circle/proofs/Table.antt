@@ -4,6 +4,7 @@ use mathlib.Core.Bool.{Bool, true, false}
 use mathlib.Core.List.{List, [], _∷_}
 use Prim.Native.Nat.{ℕ, zero, suc, _+_, _<_}
 use native.Mathlib.Nat.{add-zero, zero-add, add-suc, suc-add, le-of-suc-le-suc, not-suc-le-zero}
+use native.Mathlib.Omega.{arith}
 use lib.Dec.{T}
 use lib.ListN.{getD}
 
@@ -49,3 +50,47 @@ every-from f g i (suc n) t (suc k) h =
 -- a test that passes at each of the first n values passes at each number below n
 pub every-at : {A : Type 0} (f : A → Bool) (g : ℕ → A) (n : ℕ) → T (every f (values g 0 n)) → (k : ℕ) → k < n → T (f (g k))
 every-at f g n t k h = subst (λ (m : ℕ). T (f (g m))) (zero-add k) (every-from f g 0 n t k h)
+
+-- the test passes at each pair of the two lists, place by place, as far as the first goes
+abbrev pub row : {A : Type 0} → (A → A → Bool) → List A → List A → Bool
+row f [] zs = true
+row f (y ∷ ys) [] = false
+row f (y ∷ ys) (z ∷ zs) = both (f y z) (row f ys zs)
+
+row-from : {A : Type 0} (f : A → A → Bool) (g : ℕ → A) (i m j n : ℕ) → T (row f (values g i m) (values g j n)) → (k : ℕ) → k < m → T (f (g (i + k)) (g (j + k)))
+row-from f g i zero j n t k h = absurd (not-suc-le-zero h)
+row-from f g i (suc m) j zero t k h = absurd t
+row-from f g i (suc m) j (suc n) t zero h =
+    rw (add-zero i, add-zero j) (both-left (f (g i) (g j)) (row f (values g (suc i) m) (values g (suc j) n)) t)
+row-from f g i (suc m) j (suc n) t (suc k) h =
+    let p : i + suc k ≡ suc i + k = omega arith in
+    let q : j + suc k ≡ suc j + k = omega arith in
+    rw (p, q)
+    (row-from f g (suc i) m (suc j) n (both-right (f (g i) (g j)) (row f (values g (suc i) m) (values g (suc j) n)) t) k (le-of-suc-le-suc h))
+
+-- the test passes at each x of the first list, each y of the second, and z of the third at the sum of their places
+abbrev pub grid : {A : Type 0} → (A → A → A → Bool) → List A → List A → List A → Bool
+grid f [] ys zs = true
+grid f (x ∷ xs) ys [] = false
+grid f (x ∷ xs) ys (z ∷ zs) = both (row (f x) ys (z ∷ zs)) (grid f xs ys zs)
+
+grid-from : {A : Type 0} (f : A → A → A → Bool) (g : ℕ → A) (ys : List A) (i m j n : ℕ) → T (grid f (values g i m) ys (values g j n)) → (k : ℕ) → k < m → (l : ℕ) × T (row (f (g (i + k))) ys (values g (j + k) l))
+grid-from f g ys i zero j n t k h = absurd (not-suc-le-zero h)
+grid-from f g ys i (suc m) j zero t k h = absurd t
+grid-from f g ys i (suc m) j (suc n) t zero h = (
+  suc n,
+  rw (add-zero i, add-zero j)
+      (both-left (row (f (g i)) ys (values g j (suc n))) (grid f (values g (suc i) m) ys (values g (suc j) n)) t),
+)
+grid-from f g ys i (suc m) j (suc n) t (suc k) h =
+    let p : i + suc k ≡ suc i + k = omega arith in
+    let q : j + suc k ≡ suc j + k = omega arith in
+    let r = grid-from f g ys (suc i) m (suc j) n (both-right (row (f (g i)) ys (values g j (suc n))) (grid f (values g (suc i) m) ys (values g (suc j) n)) t) k (le-of-suc-le-suc h) in
+    (r .0, rw (p, q) (r .1))
+
+-- a test that passes on the grid of the first n values passes at each two numbers below n
+pub grid-at : {A : Type 0} (f : A → A → A → Bool) (g : ℕ → A) (n l : ℕ) → T (grid f (values g 0 n) (values g 0 n) (values g 0 l)) → (u v : ℕ) → u < n → v < n → T (f (g u) (g v) (g (u + v)))
+grid-at f g n l t u v h k =
+    let r = grid-from f g (values g 0 n) 0 n 0 l t u h in
+    let q : T (f (g (0 + u)) (g (0 + v)) (g (0 + u + v))) = row-from (f (g (0 + u))) g 0 n (0 + u) (r .0) (r .1) v k in
+    rw (zero-add u, zero-add v) at q

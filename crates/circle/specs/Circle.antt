@@ -47,10 +47,10 @@ point (suc d) (suc v) =
 unfoldable pub circle : ℕ → Point
 circle v = point 14 v
 
-unfoldable pub cosine : ℕ → ℕ
+abbrev pub cosine : ℕ → ℕ
 cosine v = circle v .cos
 
-unfoldable pub sine : ℕ → ℕ
+abbrev pub sine : ℕ → ℕ
 sine v = circle v .sin
 
 -- the value at v where v is at most a quarter of a turn, else none

@@ -2,8 +2,15 @@
 // Angles are counted in 256ths of a turn.
 ghost use mathlib.Core.Path.{_≡_};
 ghost use Prim.Native.Nat.{_^_, _≤_, _*_, _+_};
-ghost use Rattle.circle.specs.Circle.{circle, cosine as cosineOf, sine as sineOf, inQuarter};
+ghost use Rattle.circle.specs.Circle.{circle, cosine as cosineOf, sine as sineOf, inQuarter, CircleDetermined};
+ghost use lib.IntN.{pos, natAbs, _*ℤ_};
+ghost use Rattle.circle.specs.Nearest.{NearestQuotient, NearestSigned};
+ghost use Rattle.circle.specs.Near.{Near, multiple, sizes};
+ghost use Rattle.circle.specs.Fine.{fine, FineDetermined, FineProducts};
+ghost use Rattle.circle.specs.Twiddle.{twiddle as twiddleOf, TwiddlesDetermined};
+ghost use Rattle.circle.specs.Figures.{CircleFigures};
 ghost use Rattle.circle.specs.Spread.{spread as spreadOf};
+use integers::Complex;
 
 // A point of the circle: cosine and sine times 2^30.
 #[derive(Clone, Copy)]
@@ -58,9 +65,119 @@ fn eighth(v: usize) -> Point
     Point { cos, sin }
 }
 
+// The point at v, in the first quarter.
+fn quarter(v: usize) -> Point
+    requires { ⌜ v ≤ 64 ⌝ }
+    ensures { λ r. ⌜ r ≡ circle v ⌝ }
+{
+    if v <= 32 {
+        eighth(v)
+    } else {
+        let image = eighth(64 - v);
+        Point {
+            cos: image.sin,
+            sin: image.cos,
+        }
+    }
+}
+
+// The cosine at v times 2^30; none past a quarter of a turn.
+pub fn cosine(v: usize) -> Option<u32>
+    ensures { λ r. ⌜ r ≡ inQuarter v (cosineOf v) ⌝ }
+{
+    if v <= 64 { Some(quarter(v).cos) } else { None }
+}
+
+// The sine at v times 2^30; none past a quarter of a turn.
+pub fn sine(v: usize) -> Option<u32>
+    ensures { λ r. ⌜ r ≡ inQuarter v (sineOf v) ⌝ }
+{
+    if v <= 64 { Some(quarter(v).sin) } else { None }
+}
+
+// The rules of the circle have exactly one solution, which `cosine` and `sine` answer.
+pub fn circle_is_determined() -> u8
+    ensures { λ _. ⌜ CircleDetermined ⌝ }
+{
+    0
+}
+
+// The fine twiddle at u: the power u of the 256th root of unity e^(−2πj/256), times 2^30; u counts modulo 256.
+pub fn fine_twiddle(u: usize) -> Complex
+    ensures value { λ r. ⌜ r ≡ fine u ⌝ }
+    ensures size { λ r. ⌜ sizes r ≤ 3 * 2 ^ 29 ⌝ }
+{
+    let Point { cos, sin } = quarter(u % 64);
+    let (cos, sin) = (i64::from(cos), i64::from(sin));
+    match u / 64 % 4 {
+        0 => Complex { re: cos, im: -sin },
+        1 => Complex { re: -sin, im: -cos },
+        2 => Complex { re: -cos, im: sin },
+        _ => Complex { re: sin, im: cos },
+    }
+}
+
+// size/2^30 to the nearest whole number, halves upward.
+fn nearest(size: u64) -> u64
+    requires { ⌜ size ≤ 2 ^ 63 ⌝ }
+    ensures { λ r. ⌜ NearestQuotient size (2 ^ 30) r ⌝ }
+{
+    (size + (1 << 29)) / (1 << 30)
+}
+
+// scale·x/2^30 to the nearest whole number, halves away from zero.
+fn nearest_part(x: i64, scale: u32) -> i64
+    requires { ⌜ natAbs x ≤ 3 * 2 ^ 29 ⌝ }
+    ensures { λ r. ⌜ NearestSigned (pos scale *ℤ x) (2 ^ 30) r ⌝ }
+{
+    let size = nearest(x.unsigned_abs() * u64::from(scale)) as i64;
+    if x < 0 { -size } else { size }
+}
+
+// The twiddle of a scale at u: the fine twiddle brought to the scale, each component rounded to the nearest, halves away from zero.
+pub fn twiddle(u: usize, scale: u32) -> Complex
+    ensures value { λ r. ⌜ r ≡ twiddleOf scale u ⌝ }
+    ensures size { λ r. ⌜ sizes r ≤ spreadOf scale ⌝ }
+    ensures near { λ r. ⌜ Near (2 ^ 29) (multiple (2 ^ 30) r) (multiple scale (fine u)) ⌝ }
+{
+    let Complex { re, im } = fine_twiddle(u);
+    Complex {
+        re: nearest_part(re, scale),
+        im: nearest_part(im, scale),
+    }
+}
+
 // The spread of a twiddle scale: 3·scale/2 rounded down, plus 1.
 pub fn spread(scale: u32) -> u64
     ensures { λ r. ⌜ r ≡ spreadOf scale ⌝ }
 {
     3 * scale as u64 / 2 + 1
+}
+
+// The rules of the fine twiddles have exactly one solution, which `fine_twiddle` answers.
+pub fn fine_twiddles_are_determined() -> u8
+    ensures { λ _. ⌜ FineDetermined ⌝ }
+{
+    0
+}
+
+// The rule of the twiddles has exactly one solution at every scale, which `twiddle` answers.
+pub fn twiddles_are_determined() -> u8
+    ensures { λ _. ⌜ TwiddlesDetermined ⌝ }
+{
+    0
+}
+
+// Fine twiddles multiply as powers of one root: within 8·2^30 in each component.
+pub fn fine_twiddles_multiply() -> u8
+    ensures { λ _. ⌜ FineProducts ⌝ }
+{
+    0
+}
+
+// Worked figures of the circle, its twiddles and their spread.
+pub fn figures_stand() -> u8
+    ensures { λ _. ⌜ CircleFigures ⌝ }
+{
+    0
 }
