@@ -1,3 +1,4 @@
 pub mod Powers
 pub mod Rules
 pub mod Limits
+pub mod Worked

@@ -1,3 +1,4 @@
 pub mod Methods
 pub mod Making
 pub mod Meaning
+pub mod Examples

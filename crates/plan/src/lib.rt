@@ -1,5 +1,6 @@
 // Plans: which transform, of which size, at which scales; and what its lines mean.
 mod figures;
+mod laws;
 mod making;
 mod meaning;
 mod method;
@@ -10,6 +11,9 @@ pub use figures::Figures;
 pub use figures::FiguresDebug;
 pub use figures::FiguresEq;
 pub use figures::FiguresPartialEq;
+pub use laws::figures_are_determined;
+pub use laws::sizes_are_powers;
+pub use laws::worked_figures_stand;
 pub use method::Method;
 pub use method::MethodDebug;
 pub use method::MethodEq;
