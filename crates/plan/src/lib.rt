@@ -5,6 +5,7 @@ mod making;
 mod meaning;
 mod method;
 mod plan;
+mod show;
 mod sizes;
 
 pub use figures::Figures;
@@ -19,4 +20,6 @@ pub use method::MethodDebug;
 pub use method::MethodEq;
 pub use method::MethodPartialEq;
 pub use plan::Plan;
+pub use show::FiguresDisplay;
+pub use show::PlanDisplay;
 pub use sizes::MethodDisplay;
