@@ -13,6 +13,9 @@ ghost use Rattle.circle.specs.Figures.{CircleFigures};
 ghost use Rattle.circle.specs.Spread.{spread as spreadOf};
 use integers::Complex;
 
+#[cfg(test)]
+mod tests;
+
 // A point of the circle: cosine and sine times 2^30.
 #[derive(Clone, Copy)]
 struct Point {
