@@ -3,17 +3,14 @@
 use mathlib.Core.Path.{_≡_, refl, sym, _∙_, ap, subst}
 use mathlib.Core.Bool.{Bool, true, false, not, cond}
 use Prim.Native.Nat.{ℕ, zero, suc, _+_, _-_, _*_, _^_, _<_, _≤_}
-use native.Mathlib.Nat.{not-suc-le-zero, le-of-suc-le-suc}
+use native.Mathlib.Nat.{not-suc-le-zero}
 use native.Mathlib.Omega.{arith}
 use lib.Dec.{T, leb, ltb, eqb, leb→le, nleb→lt, ltb→lt, eqb→eq}
 use Rattle.circle.specs.declared.Point.{Point}
 use Rattle.circle.specs.Nearest.{NearestRoot, NearestQuotient}
 use Rattle.circle.specs.Circle.{Circle, CircleDetermined, circle, cosine, sine, point, mirrored, halved, nearestRoot, floorRoot}
 use Rattle.circle.proofs.Unique.{root-unique, quotient-unique}
-use Rattle.circle.proofs.Table.{both, both-left, both-right, values, every, every-at}
-
-abbrev pointOf : ℕ → ℕ → Point
-pointOf c s = record { cos = c; sin = s }
+use Rattle.circle.proofs.Table.{both, both-left, both-right, every-at}
 
 isRoot : ℕ → ℕ → Bool
 isRoot x r = both (leb 1 r) (both (ltb ((2 * r - 1) * (2 * r - 1)) (4 * x)) (ltb (4 * x) ((2 * r + 1) * (2 * r + 1))))
@@ -87,13 +84,6 @@ pub mirror-sine : (v : ℕ) → 33 ≤ v → v ≤ 64 → sine v ≡ cosine (64 
 unfolding isMirror
 mirror-sine v h k = eqb→eq _ _ (both-right _ _ (mirror v h k))
 
--- past an eighth the point is the mirrored one
-pub circle-mirrored : (v : ℕ) (p : Point) → 32 < v → v ≤ 64 → p ≡ circle (64 - v) → mirrored p ≡ circle v
-circle-mirrored v p h k e =
-    let c : p .sin ≡ cosine v = ap (λ (x : Point). x .sin) e ∙ sym (mirror-cosine v h k) in
-    let s : p .cos ≡ sine v = ap (λ (x : Point). x .cos) e ∙ sym (mirror-sine v h k) in
-    ap (λ (n : ℕ). pointOf n (p .cos)) c ∙ ap (pointOf (cosine v)) s
-
 pub solves : Circle cosine sine
 unfolding circle point
 solves =
@@ -155,3 +145,14 @@ determined =
       only-cosine = λ c s p v h. agree c s cosine sine p solves 14 v (all-settle v (omega arith)) .0;
       only-sine = λ c s p v h. agree c s cosine sine p solves 14 v (all-settle v (omega arith)) .1;
     }
+
+abbrev pub pointOf : ℕ × ℕ → Point
+pointOf x = record { cos = x .0; sin = x .1 }
+
+-- the mirror image of a point of the first eighth
+pub image-right : (v : ℕ) (p : Point) → p ≡ circle v → v < 32 → mirrored p ≡ circle (64 - v)
+image-right v p e h =
+    let f : 64 - (64 - v) ≡ v = omega arith in
+    let c : cosine (64 - v) ≡ sine v = rw f at (mirror-cosine (64 - v) (omega arith) (omega arith)) in
+    let s : sine (64 - v) ≡ cosine v = rw f at (mirror-sine (64 - v) (omega arith) (omega arith)) in
+    ap mirrored e ∙ ap (λ (n : ℕ). pointOf (n, cosine v)) (sym c) ∙ ap (λ (n : ℕ). pointOf (cosine (64 - v), n)) (sym s)

@@ -1,12 +1,10 @@
 -- The fine twiddles: their rules have exactly one solution; quarter turns, period, sizes and products.
-use mathlib.Core.Path.{_≡_, refl, sym, _∙_, ap, subst}
+use mathlib.Core.Path.{_≡_, sym, _∙_, ap}
 use mathlib.Core.Bool.{Bool}
 use Prim.Native.Nat.{ℕ, zero, suc, _+_, _*_, _/_, _%_, _^_, _<_, _≤_}
-use native.Mathlib.Nat.{add-comm}
 use native.Mathlib.Omega.{arith}
-use borrow.Author.Differences.{ints}
 use lib.Dec.{T, leb, leb→le}
-use lib.IntN.{ℤ, pos, negsuc, negℤ, natAbs, _-ℤ_}
+use lib.IntN.{pos, negℤ, natAbs, _-ℤ_}
 use Rattle.integers.specs.declared.Complex.{Complex}
 use Rattle.integers.specs.Complex.{complex, quarterTurn, _⊗_}
 use Rattle.circle.specs.declared.Point.{Point}
@@ -93,13 +91,20 @@ fine-sizes u =
     let h : sizes (fine (u % 64)) ≤ 3 * 2 ^ 29 = leb→le _ _ (shorts (u % 64) (omega arith)) in
     rw (fine-split u, sizes-turned) h
 
+-- the first quarter's twiddle over a point
+abbrev pub over : Point → Complex
+over p = complex (pos (p .cos)) (negℤ (pos (p .sin)))
+
 -- what is turned as often as u stands past the first quarter is the fine twiddle at u
-pub fine-found : (u k : ℕ) (p : Point) (a b : ℤ) → p ≡ circle (u % 64) → u / 64 % 4 ≡ k → complex a b ≡ turned k (complex (pos (p .cos)) (negℤ (pos (p .sin)))) → record { value : complex a b ≡ fine u; size : sizes (complex a b) ≤ 3 * 2 ^ 29 }
+pub fine-found : (u k : ℕ) (p : Point) (x : Complex) → p ≡ circle (u % 64) → u / 64 % 4 ≡ k → x ≡ turned k (over p) → x ≡ fine u
 unfolding fine
-fine-found u k p a b e f g =
-    let h : complex a b ≡ fine u =
-    g ∙ ap (λ (q : Point). turned k (complex (pos (q .cos)) (negℤ (pos (q .sin))))) e ∙ ap (λ (n : ℕ). turned n (firstQuarter (u % 64))) (sym f) in
-    record { value = h; size = subst (λ (x : Complex). sizes x ≤ 3 * 2 ^ 29) (sym h) (fine-sizes u) }
+fine-found u k p x e f g = g ∙ ap (λ (q : Point). turned k (over q)) e ∙ ap (λ (n : ℕ). turned n (firstQuarter (u % 64))) (sym f)
+
+pub turned-sizes : (u k : ℕ) (p : Point) (x : Complex) → p ≡ circle (u % 64) → x ≡ turned k (over p) → sizes x ≤ 3 * 2 ^ 29
+turned-sizes u k p x e g =
+    let h : u % 64 < 64 = omega arith in
+    let f : x ≡ turned k (fine (u % 64)) = g ∙ ap (λ (q : Point). turned k (over q)) e ∙ ap (turned k) (sym (fine-first (u % 64) h)) in
+    rw (f, sizes-turned) (fine-sizes (u % 64))
 
 -- products: one computed test of the first quarter's pairs, carried on by turns
 isProduct : Complex → Complex → Complex → Bool

@@ -1,10 +1,11 @@
 -- Quarter turns: four of them change nothing; they pass through products and multiples, and keep sizes and distances.
-use mathlib.Core.Path.{_≡_, refl, sym, _∙_, ap, subst}
+use mathlib.Core.Path.{_≡_, refl, sym, _∙_, ap}
 use Prim.Native.Nat.{ℕ, zero, suc, _+_, _*_, _/_, _%_, _≤_}
-use native.Mathlib.Nat.{add-zero, zero-add, add-suc, suc-add, add-assoc, add-comm, div-add-mod}
+use native.Mathlib.Nat.{zero-add, suc-add}
+use native.Mathlib.Numerals.{add-one}
 use native.Mathlib.Omega.{arith}
 use borrow.Author.Differences.{ints}
-use lib.IntN.{ℤ, pos, negsuc, negℤ, natAbs, _+ℤ_, _-ℤ_, _*ℤ_, negℤ-negℤ, *ℤ-comm, *ℤ-negsuc, zero-*ℤ}
+use lib.IntN.{ℤ, pos, negsuc, negℤ, natAbs, _-ℤ_, _*ℤ_, negℤ-negℤ, *ℤ-comm, *ℤ-negsuc, zero-*ℤ}
 use Rattle.integers.specs.declared.Complex.{Complex}
 use Rattle.integers.specs.Complex.{complex, quarterTurn, _⊗_}
 use Rattle.circle.specs.Near.{Near, sizes, multiple, turned}
@@ -17,6 +18,10 @@ pub turned-add : (j k : ℕ) (x : Complex) → turned (j + k) x ≡ turned j (tu
 unfolding turned
 turned-add zero k x = ap (λ (n : ℕ). turned n x) (zero-add k)
 turned-add (suc j) k x = ap (λ (n : ℕ). turned n x) (suc-add j k) ∙ ap quarterTurn (turned-add j k x)
+
+pub turned-next : (k : ℕ) (x : Complex) → quarterTurn (turned k x) ≡ turned (k + 1) x
+unfolding turned
+turned-next k x = rw add-one
 
 pub turned-four : (x : Complex) → turned 4 x ≡ x
 unfolding turned

@@ -1,11 +1,11 @@
 -- There is at most one nearest whole number.
-use mathlib.Core.Path.{_≡_, refl, sym, _∙_, ap, subst}
+use mathlib.Core.Path.{_≡_}
 use mathlib.Core.Logic.{inl, inr}
-use Prim.Native.Nat.{ℕ, zero, suc, _+_, _-_, _*_, _<_, _≤_}
+use Prim.Native.Nat.{ℕ, _+_, _-_, _*_, _<_, _≤_}
 use native.Mathlib.Nat.{mul-le-mul, lt-of-not-le, lt-of-le-of-lt, not-le-of-lt, lt-of-mul-lt-mul-left, lt-trans}
 use native.Mathlib.Omega.{arith}
 use borrow.Author.Differences.{ints}
-use lib.IntN.{ℤ, pos, natAbs}
+use lib.IntN.{ℤ, natAbs}
 use Rattle.circle.specs.Nearest.{NearestRoot, NearestQuotient, NearestSigned}
 
 -- squares keep the order

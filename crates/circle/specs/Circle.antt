@@ -34,19 +34,24 @@ halved p = let c = nearestRoot (2 ^ 29 * (2 ^ 30 + p .cos)) in record { cos = c;
 abbrev pub mirrored : Point → Point
 mirrored p = record { cos = p .sin; sin = p .cos }
 
+-- the point at angle 0
+abbrev pub start : Point
+start = record { cos = 2 ^ 30; sin = 0 }
+
 -- the point at v, by at most d steps from v to 2·v or to 64 − v
 unfoldable pub point : ℕ → ℕ → Point
-point d zero = record { cos = 2 ^ 30; sin = 0 }
-point zero (suc v) = record { cos = 2 ^ 30; sin = 0 }
+point d zero = start
+point zero (suc v) = start
 point (suc d) (suc v) =
     let half = halved (point d (2 * suc v)) in
     let mirror = mirrored (point d (64 - suc v)) in
     cond (leb (suc v) 32) half mirror
 
--- the cosine and the sine at v times 2^30
+-- the point at v: 14 steps are enough to come from any v up to 64 to 0
 unfoldable pub circle : ℕ → Point
 circle v = point 14 v
 
+-- the cosine and the sine at v, times 2^30
 abbrev pub cosine : ℕ → ℕ
 cosine v = circle v .cos
 

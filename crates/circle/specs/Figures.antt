@@ -1,8 +1,6 @@
 -- Worked figures of the circle.
 use mathlib.Core.Path.{_≡_}
-use Prim.Native.Nat.{ℕ}
 use lib.IntN.{pos, negsuc}
-use Rattle.integers.specs.declared.Complex.{Complex}
 use Rattle.integers.specs.Complex.{complex}
 use Rattle.circle.specs.Circle.{cosine, sine}
 use Rattle.circle.specs.Twiddle.{twiddle}

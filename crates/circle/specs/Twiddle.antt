@@ -1,11 +1,10 @@
 -- The twiddles of a scale: the fine twiddles brought to that scale and rounded.
 use mathlib.Core.Path.{_≡_}
-use Prim.Native.Nat.{ℕ, zero, suc, _+_, _*_, _/_, _^_}
+use Prim.Native.Nat.{ℕ, suc, _+_, _/_, _^_}
 use lib.IntN.{ℤ, pos, negsuc, negℤ, _*ℤ_}
 use Rattle.integers.specs.declared.Complex.{Complex}
 use Rattle.integers.specs.Complex.{complex}
 use Rattle.circle.specs.Nearest.{NearestSigned}
-use Rattle.circle.specs.Near.{multiple}
 use Rattle.circle.specs.Fine.{fine}
 
 -- the rule of the twiddles g of a scale, over the fine twiddles: scale/2^30 of each component, to the nearest

@@ -1,16 +1,20 @@
 // The circle in whole numbers: cosines and sines times 2^30, twiddles of any scale, the spread of a scale.
 // Angles are counted in 256ths of a turn.
 ghost use mathlib.Core.Path.{_≡_};
-ghost use Prim.Native.Nat.{_^_, _≤_, _*_, _+_};
-ghost use Rattle.circle.specs.Circle.{circle, cosine as cosineOf, sine as sineOf, inQuarter, CircleDetermined};
+ghost use Prim.Native.Nat.{_^_, _<_, _≤_, _*_, _-_};
+ghost use Rattle.circle.specs.Circle.{circle, mirrored, cosine as cosineOf, sine as sineOf, inQuarter, CircleDetermined};
 ghost use lib.IntN.{pos, natAbs, _*ℤ_};
 ghost use Rattle.circle.specs.Nearest.{NearestQuotient, NearestSigned};
 ghost use Rattle.circle.specs.Near.{Near, multiple, sizes};
+ghost use Rattle.integers.specs.Complex.{quarterTurn};
 ghost use Rattle.circle.specs.Fine.{fine, FineDetermined, FineProducts};
 ghost use Rattle.circle.specs.Twiddle.{twiddle as twiddleOf, TwiddlesDetermined};
 ghost use Rattle.circle.specs.Figures.{CircleFigures};
 ghost use Rattle.circle.specs.Spread.{spread as spreadOf};
 use integers::Complex;
+
+#[cfg(test)]
+mod tests;
 
 // A point of the circle: cosine and sine times 2^30.
 #[derive(Clone, Copy)]
@@ -56,10 +60,11 @@ const EIGHTH: [(u32, u32); 33] = [
     (759_250_125, 759_250_125),
 ];
 
-// The point at v, in the first eighth.
+// The point at v, in the first eighth; its mirror image stands at 64 − v.
 fn eighth(v: usize) -> Point
     requires { ⌜ v ≤ 32 ⌝ }
-    ensures { λ r. ⌜ r ≡ circle v ⌝ }
+    ensures value { λ r. ⌜ r ≡ circle v ⌝ }
+    ensures image { λ r. ⌜ (v < 32 → mirrored r ≡ circle (64 - v)) ⌝ }
 {
     let (cos, sin) = EIGHTH[v];
     Point { cos, sin }
@@ -102,19 +107,31 @@ pub fn circle_is_determined() -> u8
     0
 }
 
+// x times −j: (a + jb)(−j) = b − ja.
+fn quarter_turn(x: Complex) -> Complex
+    requires { ⌜ sizes x ≤ 3 * 2 ^ 29 ⌝ }
+    ensures { λ r. ⌜ r ≡ quarterTurn x ⌝ }
+{
+    Complex {
+        re: x.im,
+        im: -x.re,
+    }
+}
+
 // The fine twiddle at u: the power u of the 256th root of unity e^(−2πj/256), times 2^30; u counts modulo 256.
 pub fn fine_twiddle(u: usize) -> Complex
     ensures value { λ r. ⌜ r ≡ fine u ⌝ }
     ensures size { λ r. ⌜ sizes r ≤ 3 * 2 ^ 29 ⌝ }
 {
     let Point { cos, sin } = quarter(u % 64);
-    let (cos, sin) = (i64::from(cos), i64::from(sin));
-    match u / 64 % 4 {
-        0 => Complex { re: cos, im: -sin },
-        1 => Complex { re: -sin, im: -cos },
-        2 => Complex { re: -cos, im: sin },
-        _ => Complex { re: sin, im: cos },
+    let mut x = Complex {
+        re: i64::from(cos),
+        im: -i64::from(sin),
+    };
+    for _ in 0..u / 64 % 4 {
+        x = quarter_turn(x);
     }
+    x
 }
 
 // size/2^30 to the nearest whole number, halves upward.

@@ -1,30 +1,26 @@
+use mathlib.Core.Path.{_∙_, ap}
 use native.Mathlib.Omega.{arith}
 use borrow.Author.Differences.{ints}
+use Rattle.integers.specs.Complex.{quarterTurn}
 use Rattle.circle.specs.Near.{turned}
-use Rattle.circle.proofs.Turns.{complex-same}
-use Rattle.circle.proofs.Fine.{fine-found}
+use Rattle.circle.proofs.Turns.{complex-same, turned-next}
+use Rattle.circle.proofs.Fine.{fine-found, turned-sizes}
 use Rattle.circle.proofs.fine_twiddle.Needs as need
 
-pub returns-in-0 : need.returns-in-0
+pub loop-holds : need.loop-holds
 unfolding turned
-returns-in-0 c =
-    fine-found (c .args .u) 0 (c .quarter-cos .result) _ _ (c .quarter-cos .ensures) (c .in-0 .is)
-    (complex-same _ _ _ _ (omega (arith, ints)) (omega (arith, ints)))
+loop-holds c = complex-same _ _ _ _ (omega (arith, ints)) (omega (arith, ints))
 
-pub returns-in-1 : need.returns-in-1
-unfolding turned
-returns-in-1 c =
-    fine-found (c .args .u) 1 (c .quarter-cos .result) _ _ (c .quarter-cos .ensures) (c .in-1 .is)
-    (complex-same _ _ _ _ (omega (arith, ints)) (omega (arith, ints)))
+pub quarter-turn-x-requires : need.quarter-turn-x-requires
+quarter-turn-x-requires c κs =
+    turned-sizes (c .args .u) (c .loop .counter) (c .quarter-cos .result) (c .loop .x) (c .quarter-cos .ensures) (c .loop .inv)
 
-pub returns-in-2 : need.returns-in-2
-unfolding turned
-returns-in-2 c =
-    fine-found (c .args .u) 2 (c .quarter-cos .result) _ _ (c .quarter-cos .ensures) (c .in-2 .is)
-    (complex-same _ _ _ _ (omega (arith, ints)) (omega (arith, ints)))
+pub loop-again : need.loop-again
+loop-again c = c .quarter-turn-x .ensures ∙ ap quarterTurn (c .loop .inv) ∙ turned-next (c .loop .counter) _
 
-pub returns-in-rest : need.returns-in-rest
-unfolding turned
-returns-in-rest c =
-    fine-found (c .args .u) 3 (c .quarter-cos .result) _ _ (c .quarter-cos .ensures) (omega arith)
-    (complex-same _ _ _ _ (omega (arith, ints)) (omega (arith, ints)))
+pub returns : need.returns
+returns c =
+    record {
+      value = fine-found (c .args .u) (c .loop .counter) (c .quarter-cos .result) (c .loop .x) (c .quarter-cos .ensures) (omega arith) (c .loop .inv);
+      size = turned-sizes (c .args .u) (c .loop .counter) (c .quarter-cos .result) (c .loop .x) (c .quarter-cos .ensures) (c .loop .inv);
+    }

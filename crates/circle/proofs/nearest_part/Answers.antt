@@ -2,9 +2,7 @@ use mathlib.Core.Path.{_≡_}
 use Prim.Native.Nat.{_≤_, _<_, _*_, _^_}
 use native.Mathlib.Omega.{arith}
 use borrow.Author.Differences.{ints}
-use lib.IntN.{natAbs, pos}
-use lib.Signed.{_≤ℤ_, _<ℤ_}
-use Rattle.circle.specs.Nearest.{NearestQuotient}
+use lib.IntN.{natAbs}
 use Rattle.circle.proofs.Twiddles.{product-fits, nearest-negative, nearest-positive}
 use Rattle.circle.proofs.nearest_part.Needs as need
 
