@@ -1,1 +1,2 @@
 pub mod Complex
+pub mod Residue
