@@ -1,7 +1,7 @@
 -- Each refusal's number, word and the place that it tells, in one definition; and its text.
-use mathlib.Core.List.{List, []}
-use mathlib.Core.List.{_++_}
-use Prim.Native.Nat.{ℕ}
+use mathlib.Core.List.{List, [], _++_}
+use mathlib.Core.Path.{_≡_}
+use Prim.Native.Nat.{ℕ, _≤_}
 use lib.Chars.{codes}
 use Rattle.std.specs.Written.{decimal}
 use Rattle.std.specs.declared.option.Option.{Option}
@@ -43,4 +43,10 @@ placeText (Some p) = codes " at " ++ decimal p
 
 -- the text of a row: its number, its word, its place
 abbrev pub text : Row → List ℕ
-text x = decimal (x .number) ++ codes " " ++ x .word ++ placeText (x .place)
+text x = decimal (x .number) ++ (codes " " ++ (x .word ++ placeText (x .place)))
+
+-- The number is from 1 to 15, and number and place together tell the refusal.
+pub record Distinct : Type 0 where
+  pub low : (x : Refusal) → 1 ≤ row x .number
+  pub high : (x : Refusal) → row x .number ≤ 15
+  pub told : (x y : Refusal) → row x .number ≡ row y .number → row x .place ≡ row y .place → x ≡ y
