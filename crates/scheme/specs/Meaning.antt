@@ -67,21 +67,25 @@ pub record NotTaken {Number : Type 0} (s : Meaning Number) (m : ℤ) (word : ℕ
   pub within : natAbs m ≤ half (s .modulus)
   pub strange : s .takes word ≡ false
 
+-- A refusal to seal: large where the number is too large, mask where the word is not taken, nothing else.
+abbrev pub Refuses : Type 0 → Type 0 → Refusal → Type 0
+Refuses large mask Large = large
+Refuses large mask Mask = mask
+Refuses large mask Size = ⊥
+Refuses large mask SampleScale = ⊥
+Refuses large mask TwiddleScale = ⊥
+Refuses large mask Block = ⊥
+Refuses large mask Narrow = ⊥
+Refuses large mask Moment = ⊥
+Refuses large mask Place = ⊥
+Refuses large mask Strange = ⊥
+Refuses large mask (Malformed p) = ⊥
+Refuses large mask Short = ⊥
+Refuses large mask Modulus = ⊥
+Refuses large mask Garbled = ⊥
+Refuses large mask Long = ⊥
+
 -- What seal may answer: the sealed number, large where m is too large, mask where m is not and the word is not taken, nothing else.
 abbrev pub Seals : {Number : Type 0} → Meaning Number → ℤ → ℕ → Result Number Refusal → Type 0
 Seals s m word (Ok x) = Sealed s m word x
-Seals s m word (Err Large) = TooLarge s m
-Seals s m word (Err Mask) = NotTaken s m word
-Seals s m word (Err Size) = ⊥
-Seals s m word (Err SampleScale) = ⊥
-Seals s m word (Err TwiddleScale) = ⊥
-Seals s m word (Err Block) = ⊥
-Seals s m word (Err Narrow) = ⊥
-Seals s m word (Err Moment) = ⊥
-Seals s m word (Err Place) = ⊥
-Seals s m word (Err Strange) = ⊥
-Seals s m word (Err (Malformed p)) = ⊥
-Seals s m word (Err Short) = ⊥
-Seals s m word (Err Modulus) = ⊥
-Seals s m word (Err Garbled) = ⊥
-Seals s m word (Err Long) = ⊥
+Seals s m word (Err e) = Refuses (TooLarge s m) (NotTaken s m word) e
