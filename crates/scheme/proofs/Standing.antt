@@ -1,0 +1,57 @@
+-- What stands for what after the calls of a scheme, stated over the meaning alone.
+use Prim.Native.Nat.{ℕ, suc, _+_, _*_, _/_, _%_, _<_}
+use mathlib.Core.Path.{_≡_, refl, sym, _∙_, ap}
+use mathlib.Core.Bool.{true}
+use native.Mathlib.Nat.{zero-mod}
+use native.Mathlib.Omega.{arith}
+use borrow.Author.Differences.{ints}
+use lib.IntN.{ℤ, pos, negsuc, natAbs, negℤ, _+ℤ_, _-ℤ_, _*ℤ_, zero-*ℤ}
+use Rattle.integers.specs.declared.Complex.{Complex}
+use Rattle.integers.specs.Complex.{complex, _⊕_, _⊖_, _⊗_, quarterTurn}
+use Rattle.integers.specs.Residue.{residue}
+use Rattle.integers.proofs.Ring.{distrib-right, neg-left, one-left}
+use Rattle.integers.proofs.Residues.{residue-pos, residue-small, residue-cancels, residue-twice, same-sum, same-opposite, same-difference, same-multiple}
+use Rattle.scheme.specs.Meaning.{Meaning, Sound, View, Zero, Sum, Opposite}
+use Rattle.scheme.specs.Hidden.{Stands, StandsPair, WellFormed, read, readPair}
+
+-- ---- one number
+
+module _ {Number : Type 0} (s : Meaning Number) (sound : Sound s) (v : View) where
+  some : 0 < s .modulus
+  some = omega (arith, sound .least)
+
+  -- a well-formed number stands for what is read in it
+  pub stands-itself : (x : Number) → s .wf x ≡ true → Stands s v (read s v x) x
+  stands-itself x w = record { wf = w; reads = sym (residue-small (s .reads v x) (s .modulus) (sound .below v x w)) }
+
+  -- it stands for every number with the same residue
+  pub stands-same : (a b : ℤ) (x : Number) → residue a (s .modulus) ≡ residue b (s .modulus) → Stands s v a x → Stands s v b x
+  stands-same a b x e h = record { wf = h .wf; reads = h .reads ∙ e }
+
+  -- what is read in a number has the residue of what it stands for
+  pub read-agrees : (a : ℤ) (x : Number) → Stands s v a x → residue (read s v x) (s .modulus) ≡ residue a (s .modulus)
+  read-agrees a x h = ap (λ r. residue (pos r) (s .modulus)) (h .reads) ∙ residue-twice a (s .modulus) some
+
+  pub zero-stands : (r : Number) → Zero s r → Stands s v (pos 0) r
+  zero-stands r h = record { wf = h .wf; reads = h .reads v ∙ sym (residue-pos 0 (s .modulus) ∙ zero-mod (s .modulus)) }
+
+  pub sum-stands : (a b : ℤ) (x y r : Number) → Stands s v a x → Stands s v b y → Sum s x y r → Stands s v (a +ℤ b) r
+  sum-stands a b x y r p q h =
+      record
+        { wf = h .wf;
+          reads =
+            h .reads v
+            ∙ sym (residue-pos (s .reads v x + s .reads v y) (s .modulus))
+            ∙ same-sum (read s v x) a (read s v y) b (s .modulus) some (read-agrees a x p) (read-agrees b y q) }
+
+  pub opposite-stands : (a : ℤ) (x r : Number) → Stands s v a x → Opposite s x r → Stands s v (negℤ a) r
+  opposite-stands a x r p h =
+      record
+        { wf = h .wf;
+          reads =
+            residue-cancels (s .reads v x) (s .reads v r) (s .modulus) (sound .below v r (h .wf)) (h .cancels v)
+            ∙ same-opposite (read s v x) a (s .modulus) some (read-agrees a x p) }
+
+  -- c times what is read in x, for what x stands for
+  pub multiple-stands : (c a : ℤ) (x r : Number) → Stands s v a x → Stands s v (c *ℤ read s v x) r → Stands s v (c *ℤ a) r
+  multiple-stands c a x r p h = stands-same (c *ℤ read s v x) (c *ℤ a) r (same-multiple c (read s v x) a (s .modulus) some (read-agrees a x p)) h
