@@ -174,4 +174,4 @@ same-multiple c a a' n z p = residue-multiple c a n z ∙ ap (λ x. residue (c *
 pub residue-cancels : (a r n : ℕ) → r < n → (a + r) % n ≡ 0 → r ≡ residue (negℤ (pos a)) n
 residue-cancels a r n h e =
     residue-only (negℤ (pos a)) n r
-      (record { below = h; times = negℤ (pos ((a + r) / n)); differs = rw (neg-left (pos ((a + r) / n)) (pos n)) (omega (arith, ints, mod-add-div' (a + r) n)) })
+    (record { below = h; times = negℤ (pos ((a + r) / n)); differs = rw (neg-left (pos ((a + r) / n)) (pos n)) (omega (arith, ints, mod-add-div' (a + r) n)) })

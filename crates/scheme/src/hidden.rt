@@ -32,9 +32,5 @@ pub fn multiple<S: Scheme>(s: &mut S, c: i64, x: S::Number) -> S::Number
     ensures frame { λ _. ⌜ meaning (now (s .exit)) ≡ meaning (now (s .entry)) ⌝ }
 {
     let r = repeated(s, c.unsigned_abs(), x);
-    if c < 0 {
-        s.opposite(r)
-    } else {
-        r
-    }
+    if c < 0 { s.opposite(r) } else { r }
 }

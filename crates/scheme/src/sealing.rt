@@ -19,7 +19,12 @@ pub fn modulus_of<S: Scheme>(s: &mut S) -> Modulus
 
 // Seals the sample m with a mask word. Refuses with Large where the size of m is above the limit or above (N − 1)/2, else with Mask
 // where the scheme does not take the word, and with nothing else.
-pub fn seal_within<S: Scheme>(s: &mut S, limit: u64, m: i64, word: u64) -> Result<S::Number, Refusal>
+pub fn seal_within<S: Scheme>(
+    s: &mut S,
+    limit: u64,
+    m: i64,
+    word: u64,
+) -> Result<S::Number, Refusal>
     ensures value { λ r. ⌜ SealsWithin (meaning (now (s .entry))) limit m word r ⌝ }
     ensures frame { λ _. ⌜ meaning (now (s .exit)) ≡ meaning (now (s .entry)) ⌝ }
 {
