@@ -100,3 +100,13 @@ module _ {Number : Type 0} (s : Meaning Number) (sound : Sound s) (v : View) whe
       stands-equal (negℤ (pos size *ℤ read s v x)) (c *ℤ read s v x) r
       (sym (neg-left (pos size) (read s v x)) ∙ ap (λ b. b *ℤ read s v x) (sym e))
       (opposite-stands (pos size *ℤ read s v x) y r h o)
+
+  -- ---- from what is read to what is stood for
+
+  pub difference-stands : (x y o r : Number) → s .wf x ≡ true → s .wf y ≡ true → Opposite s y o → Sum s x o r → Stands s v (read s v x -ℤ read s v y) r
+  difference-stands x y o r p q h k =
+      sum-stands (read s v x) (negℤ (read s v y)) x o r (stands-itself x p) (opposite-stands (read s v y) y o (stands-itself y q) h) k
+
+  pub carry-difference : (a b : ℤ) (x y r : Number) → Stands s v a x → Stands s v b y → Stands s v (read s v x -ℤ read s v y) r → Stands s v (a -ℤ b) r
+  carry-difference a b x y r p q h =
+      stands-same (read s v x -ℤ read s v y) (a -ℤ b) r (same-difference (read s v x) a (read s v y) b (s .modulus) some (read-agrees a x p) (read-agrees b y q)) h

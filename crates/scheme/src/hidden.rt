@@ -1,7 +1,7 @@
-// Multiples of hidden numbers, from sums and opposites alone.
+// Multiples and differences of hidden numbers, from sums and opposites alone, under every scheme.
 ghost use mathlib.Core.Bool.{true};
 ghost use mathlib.Core.Path.{_≡_};
-ghost use lib.IntN.{pos, _*ℤ_};
+ghost use lib.IntN.{pos, _-ℤ_, _*ℤ_};
 ghost use Rattle.scheme.specs.Meaning.{View};
 ghost use Rattle.scheme.specs.Hidden.{Stands, read};
 use crate::calls::Scheme;
@@ -33,4 +33,13 @@ pub fn multiple<S: Scheme>(s: &mut S, c: i64, x: S::Number) -> S::Number
 {
     let r = repeated(s, c.unsigned_abs(), x);
     if c < 0 { s.opposite(r) } else { r }
+}
+
+// a − b: one opposite and one sum.
+pub fn difference<S: Scheme>(s: &mut S, a: S::Number, b: S::Number) -> S::Number
+    ensures value { λ r. ⌜ (meaning (now (s .entry)) .wf a ≡ true → meaning (now (s .entry)) .wf b ≡ true → (v : View) → Stands (meaning (now (s .entry))) v (read (meaning (now (s .entry))) v a -ℤ read (meaning (now (s .entry))) v b) r) ⌝ }
+    ensures frame { λ _. ⌜ meaning (now (s .exit)) ≡ meaning (now (s .entry)) ⌝ }
+{
+    let less = s.opposite(b);
+    s.sum(a, less)
 }

@@ -5,6 +5,7 @@ pub mod pairs;
 mod sealing;
 
 pub use calls::Scheme;
+pub use hidden::difference;
 pub use hidden::multiple;
 pub use sealing::modulus_of;
 pub use sealing::open_centred;
