@@ -34,5 +34,5 @@ opposed z = let y : _≡_ {A = ℕ} 0 1 = cc in omega arith
 pub residue-sealed : {Number : Type 0} (s : Meaning Number) → Sound s → (r : ℕ) (e : Refusal) → r < s .modulus → Refuses (TooLarge s (centred r (s .modulus))) (NotTaken s (centred r (s .modulus)) 1) e → ⊥
 residue-sealed s k r e h =
     refuses-never (TooLarge s (centred r (s .modulus))) (NotTaken s (centred r (s .modulus)) 1) e
-      (λ t. omega (arith, t .above, centred-within r (s .modulus) (k .odd) h))
-      (λ t. opposed (sym (k .one) ∙ t .strange))
+    (λ t. omega (arith, t .above, centred-within r (s .modulus) (k .odd) h))
+    (λ t. opposed (sym (k .one) ∙ t .strange))

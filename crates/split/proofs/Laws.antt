@@ -40,8 +40,10 @@ sum-splits s a b r h p q = record { wf = and-both (s .wf (r .first)) (s .wf (r .
   where
     one : Sum s (a .first) (b .first) (r .first)
     one = h .first (and-first (s .wf (a .first)) (s .wf (a .second)) p) (and-first (s .wf (b .first)) (s .wf (b .second)) q)
+
     two : Sum s (a .second) (b .second) (r .second)
     two = h .second (and-second (s .wf (a .first)) (s .wf (a .second)) p) (and-second (s .wf (b .first)) (s .wf (b .second)) q)
+
     go : (v : View) → split s .reads v r ≡ (split s .reads v a + split s .reads v b) % s .modulus
     go [] =
         ap₂ (λ x y. (x + y) % s .modulus) (one .reads []) (two .reads [])
@@ -54,8 +56,10 @@ opposite-splits s a r h p = record { wf = and-both (s .wf (r .first)) (s .wf (r 
   where
     one : Opposite s (a .first) (r .first)
     one = h .first (and-first (s .wf (a .first)) (s .wf (a .second)) p)
+
     two : Opposite s (a .second) (r .second)
     two = h .second (and-second (s .wf (a .first)) (s .wf (a .second)) p)
+
     go : (v : View) → (split s .reads v a + split s .reads v r) % s .modulus ≡ 0
     go [] =
         crossed (hides s (a .first)) (hides s (a .second)) (hides s (r .first)) (hides s (r .second)) (s .modulus)
@@ -79,11 +83,12 @@ seal-splits s k m word x y w h p q t =
     let n = s .modulus in
     let z : 0 < n = omega (arith, k .least) in
     let whole : pos word +ℤ (m -ℤ pos word) ≡ m = omega (arith, ints) in
-    record
-      { within = w;
-        taken = lt-ltb word n h;
-        wf = and-both (s .wf x) (s .wf y) p q;
-        hidden =
+    record {
+      within = w;
+      taken = lt-ltb word n h;
+      wf = and-both (s .wf x) (s .wf y) p q;
+      hidden =
           ap₂ (λ a b. (a + b) % n) (t .first ∙ sym (residue-small word n h)) (t .second)
           ∙ sym (residue-sum (pos word) (m -ℤ pos word) n z)
-          ∙ ap (λ a. residue a n) whole }
+          ∙ ap (λ a. residue a n) whole;
+    }

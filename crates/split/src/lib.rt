@@ -3,6 +3,7 @@ ghost use mathlib.Core.Bool.{true, _&&_};
 ghost use mathlib.Core.Path.{_≡_};
 ghost use Rattle.scheme.specs.Meaning.{Zero, Sum, Opposite, Seals, hides};
 ghost use Rattle.split.specs.Shares.{split, ZeroHalves, SumHalves, OppositeHalves, SealsHalves};
+
 mod halves;
 
 pub use halves::Halves;

@@ -20,7 +20,7 @@ unreachable-requires g c κs =
     let z : 0 < s .modulus = omega (arith, k .least) in
     let r = c .args .r % s .modulus in
     let e : toZ w64 (ofZ w64 (c .centred .result)) ≡ centred r (s .modulus) =
-        toZ-ofZ w64 (c .centred .result) fits ∙ c .centred .ensures ∙ ap (λ n. centred (c .args .r % n) n) (c .modulus-of-modulus .ensures .value) in
+    toZ-ofZ w64 (c .centred .result) fits ∙ c .centred .ensures ∙ ap (λ n. centred (c .args .r % n) n) (c .modulus-of-modulus .ensures .value) in
     let h : Refuses (TooLarge s (centred r (s .modulus))) (NotTaken s (centred r (s .modulus)) 1) (c .in-Err .field-0) = rw (f, e) at (c .in-Err .ensures tt .value) in
     residue-sealed s k r (c .in-Err .field-0) (mod-lt (c .args .r) z) h
 
@@ -33,9 +33,10 @@ returns g c =
     let z : 0 < s .modulus = omega (arith, k .least) in
     let r = c .args .r % s .modulus in
     let e : toZ w64 (ofZ w64 (c .centred .result)) ≡ centred r (s .modulus) =
-        toZ-ofZ w64 (c .centred .result) fits ∙ c .centred .ensures ∙ ap (λ n. centred (c .args .r % n) n) (c .modulus-of-modulus .ensures .value) in
+    toZ-ofZ w64 (c .centred .result) fits ∙ c .centred .ensures ∙ ap (λ n. centred (c .args .r % n) n) (c .modulus-of-modulus .ensures .value) in
     let h : Sealed s (centred r (s .modulus)) 1 (c .in-Ok .x) = rw (f, e) at (c .in-Ok .ensures tt .value) in
-    record
-      { value =
+    record {
+      value =
           record { wf = h .wf; reads = h .hidden ∙ centred-back r (s .modulus) (mod-lt (c .args .r) z) ∙ sym (residue-pos (c .args .r) (s .modulus)) };
-        frame = c .in-Ok .ensures tt .frame ∙ f }
+      frame = c .in-Ok .ensures tt .frame ∙ f;
+    }

@@ -12,7 +12,8 @@ returns g c =
     let f : g .S·Scheme .meaning (c .opposite-first .last .self) ≡ s = c .opposite-first .ensures .frame in
     let h : s .wf (a .second) ≡ true → Opposite s (a .second) (c .opposite-second .result) = simp f at (c .opposite-second .ensures .value) in
     let k : OppositeHalves s a (record { first = c .opposite-first .result; second = c .opposite-second .result }) = record { first = c .opposite-first .ensures .value; second = h } in
-    record
-      { value = λ p. opposite-splits s a _ k p;
-        halves = k;
-        frame = ap split (c .opposite-second .ensures .frame ∙ f) }
+    record {
+      value = λ p. opposite-splits s a _ k p;
+      halves = k;
+      frame = ap split (c .opposite-second .ensures .frame ∙ f);
+    }

@@ -13,7 +13,8 @@ returns g c =
     let f : g .S·Scheme .meaning (c .sum-first .last .self) ≡ s = c .sum-first .ensures .frame in
     let h : s .wf (a .second) ≡ true → s .wf (b .second) ≡ true → Sum s (a .second) (b .second) (c .sum-second .result) = simp f at (c .sum-second .ensures .value) in
     let k : SumHalves s a b (record { first = c .sum-first .result; second = c .sum-second .result }) = record { first = c .sum-first .ensures .value; second = h } in
-    record
-      { value = λ p q. sum-splits s a b _ k p q;
-        halves = k;
-        frame = ap split (c .sum-second .ensures .frame ∙ f) }
+    record {
+      value = λ p q. sum-splits s a b _ k p q;
+      halves = k;
+      frame = ap split (c .sum-second .ensures .frame ∙ f);
+    }
