@@ -85,3 +85,30 @@ pub fn meanings_stand() -> u8
 {
     0
 }
+
+#[cfg(test)]
+mod tests {
+    use super::*;
+    use std::test::*;
+
+    #[test]
+    fn residues_at_the_ends() -> Result<(), Fail> {
+        let Some(n) = Modulus::new(4611686018427387903) else {
+            return Err(Fail::new("2^62 - 1 is a modulus"));
+        };
+        check_eq(n.half(), 2305843009213693951)?;
+        check_eq(n.residue(i64::MIN), 4611686018427387901)?;
+        check_eq(n.residue(i64::MAX), 1)?;
+        check_eq(n.centred(u64::MAX), 3)?;
+        check_eq(n.sum(u64::MAX, u64::MAX), 6)?;
+        check_eq(n.opposite(u64::MAX), 4611686018427387900)
+    }
+
+    #[test]
+    fn moduli() -> Result<(), Fail> {
+        check_eq(Modulus::new(1), None)?;
+        check_eq(Modulus::new(4611686018427387904), None)?;
+        check_eq(Modulus::new(4611686018427387905), None)?;
+        check_ne(Modulus::new(3), None)
+    }
+}

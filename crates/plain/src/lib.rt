@@ -63,3 +63,26 @@ pub impl Scheme for Plain as PlainScheme {
         x
     }
 }
+
+#[cfg(test)]
+mod tests {
+    use super::*;
+    use refusal::RefusalDebug;
+    use refusal::RefusalPartialEq;
+    use scheme::seal_and_open;
+    use std::test::*;
+
+    #[test]
+    fn residues_modulo_81() -> Result<(), Fail> {
+        let Ok(mut s) = Plain::new(81) else {
+            return Err(Fail::new("81 is a modulus"));
+        };
+        check_eq(s.seal(-5, 70), Ok(76))?;
+        check_eq(s.seal(41, 81), Err(Refusal::Large))?;
+        check_eq(s.seal(-40, 81), Err(Refusal::Mask))?;
+        check_eq(s.sum(80, 80), 79)?;
+        check_eq(s.opposite(0), 0)?;
+        check(!s.test(81))?;
+        check_eq(seal_and_open(&mut s, -40, 80), Ok(-40))
+    }
+}

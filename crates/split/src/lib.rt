@@ -4,8 +4,10 @@ ghost use mathlib.Core.Path.{_≡_};
 ghost use Rattle.scheme.specs.Meaning.{Zero, Sum, Opposite, Seals, hides};
 ghost use Rattle.split.specs.Shares.{split, ZeroHalves, SumHalves, OppositeHalves, SealsHalves};
 
+mod figure;
 mod halves;
 
+pub use figure::sealed_figure;
 pub use halves::Halves;
 use refusal::Refusal;
 use scheme::Scheme;
@@ -97,5 +99,39 @@ pub impl<S: Scheme> Scheme for Split<S> as SplitScheme {
         let first = self.below.open(x.first);
         let second = self.below.open(x.second);
         modulus.sum(first, second)
+    }
+}
+
+#[cfg(test)]
+mod tests {
+    use super::*;
+    use integers::Complex;
+    use integers::ComplexDebug;
+    use integers::ComplexPartialEq;
+    use plain::Plain;
+    use plain::PlainScheme;
+    use scheme::pairs;
+    use std::test::*;
+
+    // (4 − 3j)·(2 + 5j), sealed, multiplied and opened: 23 + 14j.
+    fn multiplied<S: Scheme>(s: &mut S, words: (u64, u64)) -> Option<Complex> {
+        let Ok(pair) = pairs::seal(s, 5, Complex { re: 2, im: 5 }, words) else {
+            return None;
+        };
+        let product = pairs::product(s, Complex { re: 4, im: -3 }, pair);
+        Some(pairs::open(s, product))
+    }
+
+    #[test]
+    fn one_function_for_every_scheme() -> Result<(), Fail> {
+        let Ok(plain) = Plain::new(81) else {
+            return Err(Fail::new("81 is a modulus"));
+        };
+        let expected = Some(Complex { re: 23, im: 14 });
+        let mut once = Split::new(plain);
+        check_eq(multiplied(&mut once, (17, 80)), expected)?;
+        let mut twice = Split::new(Split::new(plain));
+        check_eq(multiplied(&mut twice, (33, 2)), expected)?;
+        check_eq(multiplied(&mut twice, (81, 2)), None)
     }
 }
