@@ -1,0 +1,3 @@
+pub mod ComplexRing
+pub mod Residues
+pub mod Ring

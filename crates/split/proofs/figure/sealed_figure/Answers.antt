@@ -1,0 +1,11 @@
+use mathlib.Core.Path.{_≡_, _∙_, ap}
+use Rattle.scheme.specs.Meaning.{Seals}
+use Rattle.split.specs.Shares.{split, SealsHalves}
+use Rattle.plain.specs.Residues.{residues}
+use Rattle.split.proofs.Figures.{figure-stands}
+use Rattle.split.proofs.figure.sealed_figure.Needs as need
+
+pub returns : need.returns
+returns c =
+    let n : c .new-s .result .below .modulus .n ≡ 81 = ap (λ p. p .modulus .n) (c .new-s .ensures) ∙ c .in-Ok .ensures tt .1 in
+    figure-stands (c .seal .result) (rw n at (c .seal .ensures .value)) (rw n at (c .seal .ensures .halves))
