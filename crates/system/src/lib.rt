@@ -1,0 +1,5 @@
+// The residue system.
+
+pub fn nothing() -> u8 {
+    0
+}
