@@ -6,7 +6,6 @@ use Rattle.integers.specs.declared.Complex.{Complex}
 
 infixl 6 _⊕_ _⊖_
 infixl 7 _⊗_
-
 -- the complex number re + j·im
 abbrev pub complex : ℤ → ℤ → Complex
 complex a b = record { re = a; im = b }

@@ -1,7 +1,7 @@
 -- Each refusal's number, word and the place that it tells, in one definition; and its text.
-use mathlib.Core.List.{List, []}
-use mathlib.Core.List.{_++_}
-use Prim.Native.Nat.{ℕ}
+use mathlib.Core.List.{List, [], _++_}
+use mathlib.Core.Path.{_≡_}
+use Prim.Native.Nat.{ℕ, _≤_}
 use lib.Chars.{codes}
 use Rattle.std.specs.Written.{decimal}
 use Rattle.std.specs.declared.option.Option.{Option}
@@ -36,11 +36,17 @@ row Modulus = plainRow 13 (codes "modulus")
 row Garbled = plainRow 14 (codes "garbled")
 row Long = plainRow 15 (codes "long")
 
--- the text of the place, where there is one: ' at 3'
-abbrev pub placeText : Option ℕ → List ℕ
-placeText None = []
-placeText (Some p) = codes " at " ++ decimal p
+-- a number, a word and, where there is one, a place: '11 large', '9 malformed at 3'
+abbrev pub shownAs : ℕ → List ℕ → Option ℕ → List ℕ
+shownAs n w None = decimal n ++ (codes " " ++ w)
+shownAs n w (Some p) = decimal n ++ (codes " " ++ (w ++ (codes " at " ++ decimal p)))
 
--- the text of a row: its number, its word, its place
+-- the text of a row
 abbrev pub text : Row → List ℕ
-text x = decimal (x .number) ++ codes " " ++ x .word ++ placeText (x .place)
+text x = shownAs (x .number) (x .word) (x .place)
+
+-- The number is from 1 to 15, and number and place together tell the refusal.
+pub record Distinct : Type 0 where
+  pub low : (x : Refusal) → 1 ≤ row x .number
+  pub high : (x : Refusal) → row x .number ≤ 15
+  pub told : (x y : Refusal) → row x .number ≡ row y .number → row x .place ≡ row y .place → x ≡ y

@@ -1,8 +1,8 @@
 // Every refusal of the product, with its number, its word and the value that it carries.
-ghost use Prim.Native.Nat.{_≤_};
 ghost use mathlib.Core.Path.{_≡_};
 ghost use Rattle.std.specs.declared.option.Option.the-variants.{Some};
-ghost use Rattle.refusal.specs.Row.{row, text};
+ghost use Rattle.refusal.specs.Row.{row, text, Distinct};
+
 mod kinds;
 
 pub use kinds::Refusal;
@@ -80,5 +80,34 @@ pub impl fmt::Display for Refusal as RefusalDisplay {
             None => write!(f, "{number} {word}"),
             Some(place) => write!(f, "{number} {word} at {place}"),
         }
+    }
+}
+
+// No two refusals are told by one number and place, and every number is from 1 to 15.
+pub fn refusals_are_distinct() -> u8
+    ensures { λ _. ⌜ Distinct ⌝ }
+{
+    0
+}
+
+#[cfg(test)]
+mod tests {
+    use super::*;
+    use std::test::*;
+
+    #[test]
+    fn shows_number_word_and_place(rt: LibcRuntime) -> Result<(), Fail> {
+        let heap = rt.alloc();
+        check_eq(Refusal::Large.to_string(heap)?.as_str(), "11 large")?;
+        check_eq(
+            Refusal::SampleScale.to_string(heap)?.as_str(),
+            "2 sample scale",
+        )?;
+        check_eq(
+            Refusal::Malformed(30).to_string(heap)?.as_str(),
+            "9 malformed at 30",
+        )?;
+        check_eq(Refusal::Malformed(30).place(), Some(30))?;
+        check_eq(Refusal::Long.place(), None)
     }
 }
