@@ -3,13 +3,46 @@ use Prim.Native.Nat.{ℕ, zero, _+_, _-_, _*_, _/_, _%_, _≤_, _<_, _∣_}
 use mathlib.Core.Path.{_≡_, refl, sym, ap, _∙_}
 use mathlib.Core.Logic.{_⊎_, inl, inr, ⊎-elim}
 use native.Mathlib.Nat.{
-  add-mul, mul-add, mul-assoc, mul-comm, mul-one, one-mul, mod-add-div, div-add-mod, add-mul-mod-self-left, mul-add-mod-self-left,
-  add-mod-mod, mod-add-mod, add-mod, mod-mod, mod-lt, mod-eq-of-lt, add-mod-right, mul-mod-right,
-  mul-div-cancel', dvd-mul-right, dvd-mul-left-of-dvd, dvd-add-iff-right, mul-dvd-mul-left, dvd-sub, le-of-dvd, dvd-trans,
-  mod-eq-zero-of-dvd, mul-le-mul-left, mul-left-comm, eq-zero-or-pos, eq-one-of-dvd-one, dvd-mod-iff
+  add-mul,
+  mul-add,
+  mul-assoc,
+  mul-comm,
+  mul-one,
+  one-mul,
+  mod-add-div,
+  div-add-mod,
+  add-mul-mod-self-left,
+  mul-add-mod-self-left,
+  add-mod-mod,
+  mod-add-mod,
+  add-mod,
+  mod-mod,
+  mod-lt,
+  mod-eq-of-lt,
+  add-mod-right,
+  mul-mod-right,
+  mul-div-cancel',
+  dvd-mul-right,
+  dvd-mul-left-of-dvd,
+  dvd-add-iff-right,
+  mul-dvd-mul-left,
+  dvd-sub,
+  le-of-dvd,
+  dvd-trans,
+  mod-eq-zero-of-dvd,
+  mul-le-mul-left,
+  mul-left-comm,
+  mul-mul-mul-comm,
+  eq-zero-or-pos,
+  eq-one-of-dvd-one,
+  dvd-mod-iff,
 }
 use native.Mathlib.Omega.{arith}
 use Rattle.std.proofs.shelf.Tests.{cases-lt}
+
+-- a remainder is below a number that something is below
+pub mod-below : (a m : ℕ) {k : ℕ} → k < m → a % m < m
+mod-below a m h = mod-lt a (omega arith)
 
 -- a factor may be replaced by its remainder
 pub mul-mod-first : (a b m : ℕ) → (a % m * b) % m ≡ (a * b) % m
@@ -37,10 +70,16 @@ pub cancel : (a b c m : ℕ) → (a + c) % m ≡ (b + c) % m → a % m ≡ b % m
 cancel a b c m e =
     ⊎-elim
     (λ (h : a < b). let g : m ∣ (b + c) - (a + c) = differ (a + c) (b + c) m (omega arith) e in
-        let s : (b + c) - (a + c) ≡ b - a = omega arith in alike a b m (omega arith) (rw s at g))
+    let s : (b + c) - (a + c) ≡ b - a = omega arith in alike a b m (omega arith) (rw s at g))
     (λ (h : b ≤ a). let g : m ∣ (a + c) - (b + c) = differ (b + c) (a + c) m (omega arith) (sym e) in
-        let s : (a + c) - (b + c) ≡ a - b = omega arith in sym (alike b a m h (rw s at g)))
+    let s : (a + c) - (b + c) ≡ a - b = omega arith in sym (alike b a m h (rw s at g)))
     (cases-lt a b)
+
+-- the product of two inverses is an inverse of the product
+pub joint-inverse : (a b m u w : ℕ) → (a * u) % m ≡ 1 → (b * w) % m ≡ 1 → (a * b * (u * w % m)) % m ≡ 1
+joint-inverse a b m u w au bw =
+    mul-mod-second (a * b) (u * w) m ∙ ap (λ t. t % m) (mul-mul-mul-comm a b u w) ∙ sym (mul-mod-first (a * u) (b * w) m)
+    ∙ ap (λ t. (t * (b * w)) % m) au ∙ ap (λ t. t % m) (one-mul (b * w)) ∙ bw
 
 -- u is an inverse of a modulo m: what a divides beside m goes into the other factor
 pub joined : (a m u d : ℕ) → (a * u) % m ≡ 1 → a ∣ d → m ∣ d → a * m ∣ d
@@ -48,8 +87,8 @@ joined a m u d inv ad md =
     let j : ℕ = d / a in
     let whole : a * j ≡ d = mul-div-cancel' a ad in
     let split : u * d ≡ m * (a * u / m * j) + j =
-        ap (λ t. u * t) (sym whole) ∙ sym (mul-assoc u a j) ∙ ap (λ t. t * j) (mul-comm u a ∙ sym (div-add-mod (a * u) m) ∙ ap (λ t. m * (a * u / m) + t) inv)
-        ∙ add-mul (m * (a * u / m)) 1 j ∙ ap (λ t. t + 1 * j) (mul-assoc m (a * u / m) j) ∙ ap (λ t. m * (a * u / m * j) + t) (one-mul j) in
+    ap (λ t. u * t) (sym whole) ∙ sym (mul-assoc u a j) ∙ ap (λ t. t * j) (mul-comm u a ∙ sym (div-add-mod (a * u) m) ∙ ap (λ t. m * (a * u / m) + t) inv)
+    ∙ add-mul (m * (a * u / m)) 1 j ∙ ap (λ t. t + 1 * j) (mul-assoc m (a * u / m) j) ∙ ap (λ t. m * (a * u / m * j) + t) (one-mul j) in
     let all : m ∣ u * d = dvd-mul-left-of-dvd m md u in
     let rest : m ∣ j = dvd-add-iff-right m (dvd-mul-right m (a * u / m * j)) .1 (rw split at all) in
     rw (← whole) (mul-dvd-mul-left m a rest)
@@ -70,8 +109,8 @@ module _ (base a m u x : ℕ) where
   step-new inv h =
       let t : ℕ = x + (m - base % m) in
       let product : (a * (t * u % m)) % m ≡ t % m =
-          mul-mod-second a (t * u) m ∙ ap (λ z. z % m) (mul-left-comm a t u) ∙ sym (mul-mod-second t (a * u) m)
-          ∙ ap (λ z. (t * z) % m) inv ∙ ap (λ z. z % m) (mul-one t) in
+      mul-mod-second a (t * u) m ∙ ap (λ z. z % m) (mul-left-comm a t u) ∙ sym (mul-mod-second t (a * u) m)
+      ∙ ap (λ z. (t * z) % m) inv ∙ ap (λ z. z % m) (mul-one t) in
       let low : base % m < m = mod-lt base (omega arith) in
       sym (add-mod-mod base (a * (t * u % m)) m) ∙ ap (λ z. (base + z) % m) product ∙ add-mod-mod base t m ∙ sym (mod-add-mod base m t)
       ∙ ap (λ z. z % m) (omega arith) ∙ add-mod-right x m ∙ mod-eq-of-lt h

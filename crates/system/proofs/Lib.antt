@@ -1,1 +1,2 @@
+pub mod Bezout
 pub mod Congruence
