@@ -39,6 +39,7 @@ use native.Mathlib.Nat.{
 }
 use native.Mathlib.Omega.{arith}
 use Rattle.std.proofs.shelf.Tests.{cases-lt}
+use Rattle.system.specs.Hidden.{raised}
 
 -- a remainder is below a number that something is below
 pub mod-below : (a m : ℕ) {k : ℕ} → k < m → a % m < m
@@ -97,15 +98,12 @@ joined a m u d inv ad md =
 pub none-below : (n d : ℕ) → n ∣ d → d < n → d ≡ 0
 none-below n d h lt = ⊎-elim (λ (z : d ≡ 0). z) (λ (p : 0 < d). let le : n ≤ d = le-of-dvd p h in (omega arith)) (eq-zero-or-pos d)
 
--- the mixed-radix step: `base` and the multiple of a that makes it leave x modulo m, where u is an inverse of a
-abbrev step : (base a m u x : ℕ) → ℕ
-step base a m u x = base + a * (((x + (m - base % m)) * u) % m)
-
+-- the mixed-radix digit keeps what the base leaves modulo a, leaves x modulo m, and fills no more than a and m allow
 module _ (base a m u x : ℕ) where
-  step-old : step base a m u x % a ≡ base % a
+  pub step-old : raised base a m u x % a ≡ base % a
   step-old = add-mul-mod-self-left base a _
 
-  step-new : (a * u) % m ≡ 1 → x < m → step base a m u x % m ≡ x
+  pub step-new : (a * u) % m ≡ 1 → x < m → raised base a m u x % m ≡ x
   step-new inv h =
       let t : ℕ = x + (m - base % m) in
       let product : (a * (t * u % m)) % m ≡ t % m =
@@ -115,7 +113,7 @@ module _ (base a m u x : ℕ) where
       sym (add-mod-mod base (a * (t * u % m)) m) ∙ ap (λ z. (base + z) % m) product ∙ add-mod-mod base t m ∙ sym (mod-add-mod base m t)
       ∙ ap (λ z. z % m) (omega arith) ∙ add-mod-right x m ∙ mod-eq-of-lt h
 
-  step-below : base < a → 0 < m → step base a m u x < a * m
+  pub step-below : base < a → 0 < m → raised base a m u x < a * m
   step-below h p =
       let k : ℕ = ((x + (m - base % m)) * u) % m in
       let lt : k < m = mod-lt _ p in
