@@ -1,1 +1,3 @@
 pub mod Complex
+pub mod Modulus
+pub mod Residue

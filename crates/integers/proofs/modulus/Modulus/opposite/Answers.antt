@@ -1,0 +1,10 @@
+use Prim.Native.Nat.{_-_, _%_, _<_}
+use native.Mathlib.Nat.{mod-lt}
+use native.Mathlib.Omega.{arith}
+use Rattle.integers.proofs.Residues.{lack-cancels}
+use Rattle.integers.proofs.modulus.Modulus.opposite.Needs as need
+
+pub returns : need.returns
+returns c =
+    let z : 0 < c .args .self .n = omega arith in
+    record { below = mod-lt (c .args .self .n - c .args .a % c .args .self .n) z; cancels = lack-cancels (c .args .a) (c .args .self .n) z }

@@ -1,0 +1,4 @@
+// Schemes: ways of hiding whole numbers modulo N, and what is done alike under every one of them.
+mod calls;
+
+pub use calls::Scheme;
