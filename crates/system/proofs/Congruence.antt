@@ -100,11 +100,11 @@ none-below n d h lt = ⊎-elim (λ (z : d ≡ 0). z) (λ (p : 0 < d). let le : n
 
 -- the mixed-radix digit keeps what the base leaves modulo a, leaves x modulo m, and fills no more than a and m allow
 module _ (base a m u x : ℕ) where
-  pub step-old : raised base a m u x % a ≡ base % a
-  step-old = add-mul-mod-self-left base a _
+  pub raised-old : raised base a m u x % a ≡ base % a
+  raised-old = add-mul-mod-self-left base a _
 
-  pub step-new : (a * u) % m ≡ 1 → x < m → raised base a m u x % m ≡ x
-  step-new inv h =
+  pub raised-new : (a * u) % m ≡ 1 → x < m → raised base a m u x % m ≡ x
+  raised-new inv h =
       let t : ℕ = x + (m - base % m) in
       let product : (a * (t * u % m)) % m ≡ t % m =
       mul-mod-second a (t * u) m ∙ ap (λ z. z % m) (mul-left-comm a t u) ∙ sym (mul-mod-second t (a * u) m)
@@ -113,8 +113,8 @@ module _ (base a m u x : ℕ) where
       sym (add-mod-mod base (a * (t * u % m)) m) ∙ ap (λ z. (base + z) % m) product ∙ add-mod-mod base t m ∙ sym (mod-add-mod base m t)
       ∙ ap (λ z. z % m) (omega arith) ∙ add-mod-right x m ∙ mod-eq-of-lt h
 
-  pub step-below : base < a → 0 < m → raised base a m u x < a * m
-  step-below h p =
+  pub raised-below : base < a → 0 < m → raised base a m u x < a * m
+  raised-below h p =
       let k : ℕ = ((x + (m - base % m)) * u) % m in
       let lt : k < m = mod-lt _ p in
       let le : a * (k + 1) ≤ a * m = mul-le-mul-left a (omega arith) in

@@ -8,7 +8,7 @@ use Rattle.system.specs.declared.residues.System.{System}
 
 -- the modulus of the system: the product of the three
 abbrev pub product : System → ℕ
-product s = s .first * s .second * s .third
+product s = s .first .n * s .second .n * s .third .n
 
 -- three residues, by name
 abbrev pub residues : ℕ → ℕ → ℕ → Residues
@@ -16,14 +16,14 @@ residues a b c = record { first = a; second = b; third = c }
 
 -- whether each residue is below its modulus
 abbrev pub formed : System → Residues → Bool
-formed s x = ltb (x .first) (s .first) && (ltb (x .second) (s .second) && ltb (x .third) (s .third))
+formed s x = ltb (x .first) (s .first .n) && (ltb (x .second) (s .second .n) && ltb (x .third) (s .third .n))
 
 -- n is a number below the product that leaves the three residues
 pub record Leaves (s : System) (x : Residues) (n : ℕ) : Type 0 where
   pub below : n < product s
-  pub one : n % s .first ≡ x .first
-  pub two : n % s .second ≡ x .second
-  pub three : n % s .third ≡ x .third
+  pub one : n % s .first .n ≡ x .first
+  pub two : n % s .second .n ≡ x .second
+  pub three : n % s .third .n ≡ x .third
 
 -- a mixed-radix digit: base, raised by the multiple of a that makes it leave x modulo m, where u is an inverse of a modulo m
 abbrev pub raised : (base a m u x : ℕ) → ℕ
@@ -32,7 +32,7 @@ raised base a m u x = base + a * (((x + (m - base % m)) * u) % m)
 -- the number that the residues hide, digit by digit: first modulo the first modulus, then their product, then that of all three
 unfoldable pub hidden : System → Residues → ℕ
 hidden s x =
-    raised (raised (x .first) (s .first) (s .second) (s .inverse) (x .second)) (s .first * s .second) (s .third) (s .joint) (x .third)
+    raised (raised (x .first) (s .first .n) (s .second .n) (s .inverse) (x .second)) (s .first .n * s .second .n) (s .third .n) (s .joint) (x .third)
 
 -- n is the one number below the product that leaves the residues
 pub record TheOne (s : System) (x : Residues) (n : ℕ) : Type 0 where

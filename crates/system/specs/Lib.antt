@@ -1,3 +1,4 @@
 pub mod Hidden
 pub mod Making
+pub mod Meant
 pub mod Moduli

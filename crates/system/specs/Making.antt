@@ -11,9 +11,9 @@ use Rattle.system.specs.Moduli.{Lawful}
 -- the three moduli are lawful, and they are those of the system
 pub record Accepted (p q r : ℕ) (s : System) : Type 0 where
   pub lawful : Lawful p q r
-  pub one : s .first ≡ p
-  pub two : s .second ≡ q
-  pub three : s .third ≡ r
+  pub one : s .first .n ≡ p
+  pub two : s .second .n ≡ q
+  pub three : s .third .n ≡ r
 
 -- the three moduli are not lawful, and the refusal says so
 pub record Refused (p q r : ℕ) (e : Refusal) : Type 0 where

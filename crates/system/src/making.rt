@@ -4,6 +4,7 @@ ghost use Rattle.system.specs.Making.{Made};
 ghost use Rattle.system.specs.Moduli.{Suits};
 use crate::euclid::inverse;
 use crate::residues::System;
+use integers::Modulus;
 use refusal::Refusal;
 
 // Whether the modulus is odd and from 3 to 1,048,575.
@@ -33,9 +34,9 @@ impl System {
         };
         let joint = first_to_third * second_to_third % third;
         Ok(System {
-            first,
-            second,
-            third,
+            first: Modulus { n: first },
+            second: Modulus { n: second },
+            third: Modulus { n: third },
             inverse: first_to_second,
             joint,
         })
