@@ -30,7 +30,7 @@ use native.Mathlib.Nat.{
   mod-eq-zero-of-dvd,
 }
 use native.Mathlib.Omega.{arith}
-use Rattle.system.specs.Moduli.{Coprime}
+use Rattle.system.specs.Moduli.{Coprime, Inverts}
 use Rattle.system.proofs.Congruence.{mul-mod-first, mul-mod-second, cancel}
 
 -- rest and next are multiples of a, by f and g, modulo m; whatever divides both divides a and m
@@ -86,12 +86,14 @@ module _ (a m rest next f g : ℕ) (so : Going a m rest next f g) (some : 0 < ne
 pub ends : (a m rest next f g : ℕ) → Going a m rest next f g → next ≡ 0 → Coprime a m → rest ≡ 1
 ends a m rest next f g so e only = let both = so .common rest (dvd-refl rest) (rw e (dvd-zero rest)) in only rest (both .0) (both .1)
 
--- and then its factor is an inverse
-pub found : (a m rest next f g : ℕ) → 2 ≤ m → Going a m rest next f g → rest ≡ 1 → (f < m) × ((a * f) % m ≡ 1)
-found a m rest next f g h so e = (so .f-below, sym (so .is) ∙ ap (λ t. t % m) e ∙ mod-eq-of-lt (omega arith))
-
 -- numbers of which one has an inverse modulo the other have no common divisor but 1
 pub inverse-coprime : (a m u : ℕ) → (a * u) % m ≡ 1 → Coprime a m
 inverse-coprime a m u inv d da dm =
     let all : d ∣ (a * u) % m = dvd-mod-iff d dm .1 (dvd-mul-right-of-dvd d da u) in
     eq-one-of-dvd-one (rw inv at all)
+
+-- and then its factor is an inverse
+pub found : (a m rest next f g : ℕ) → 2 ≤ m → Going a m rest next f g → rest ≡ 1 → Inverts a m f
+found a m rest next f g h so e =
+    let inv : (a * f) % m ≡ 1 = sym (so .is) ∙ ap (λ t. t % m) e ∙ mod-eq-of-lt (omega arith) in
+    record { below = so .f-below; product = inv; coprime = inverse-coprime a m f inv }

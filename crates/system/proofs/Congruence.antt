@@ -101,9 +101,11 @@ none-below n d h lt = ⊎-elim (λ (z : d ≡ 0). z) (λ (p : 0 < d). let le : n
 -- the mixed-radix digit keeps what the base leaves modulo a, leaves x modulo m, and fills no more than a and m allow
 module _ (base a m u x : ℕ) where
   pub raised-old : raised base a m u x % a ≡ base % a
+  unfolding raised
   raised-old = add-mul-mod-self-left base a _
 
   pub raised-new : (a * u) % m ≡ 1 → x < m → raised base a m u x % m ≡ x
+  unfolding raised
   raised-new inv h =
       let t : ℕ = x + (m - base % m) in
       let product : (a * (t * u % m)) % m ≡ t % m =
@@ -114,6 +116,7 @@ module _ (base a m u x : ℕ) where
       ∙ ap (λ z. z % m) (omega arith) ∙ add-mod-right x m ∙ mod-eq-of-lt h
 
   pub raised-below : base < a → 0 < m → raised base a m u x < a * m
+  unfolding raised
   raised-below h p =
       let k : ℕ = ((x + (m - base % m)) * u) % m in
       let lt : k < m = mod-lt _ p in

@@ -31,8 +31,9 @@ use Rattle.scheme.specs.Meaning.{Sound, Zero, Sum, Opposite, Sealed}
 use Rattle.std.proofs.shelf.Tests.{ltb-true, lt-ltb, and-parts, and-from, cases-lt}
 use Rattle.system.specs.declared.residues.Residues.{Residues}
 use Rattle.system.specs.declared.residues.System.{System}
-use Rattle.system.specs.Hidden.{product, residues, formed, Leaves, raised, hidden, TheOne, OneIsHidden}
+use Rattle.system.specs.Hidden.{product, residues, formed, Leaves, raised, hidden, TheOne, OneIsHidden, Figure}
 use Rattle.system.specs.Meant.{meant}
+use Rattle.system.proofs.Bezout.{inverse-coprime}
 use Rattle.system.proofs.Congruence.{mul-mod-first, mod-below, differ, alike, cancel, joined, none-below, raised-old, raised-new, raised-below}
 
 module _ (s : System) where
@@ -75,7 +76,6 @@ module _ (s : System) where
 
   -- the hidden number leaves the residues
   pub hidden-leaves : (x : Residues) → formed s x ≡ true → Leaves s x (hidden s x)
-  unfolding hidden
   hidden-leaves x f =
       let parts = formed-parts x f in
       let p : x .first < s .first .n = parts .0 in
@@ -217,10 +217,10 @@ module _ (s : System) where
     below = λ v x f. hidden-leaves x f .below;
   }
 
-  pub zero-owed : Zero (meant s) (residues 0 0 0)
-  zero-owed =
-      let h = zero-leaves (residues 0 0 0) refl refl refl in
-      record { wf = leaves-formed (residues 0 0 0) 0 h; reads = λ v. hidden-is (residues 0 0 0) 0 h }
+  pub zero-owed : (x : Residues) → x ≡ residues 0 0 0 → Zero (meant s) x
+  zero-owed x e =
+      let h : Leaves s x 0 = zero-leaves x (ap (λ z. z .first) e) (ap (λ z. z .second) e) (ap (λ z. z .third) e) in
+      record { wf = leaves-formed x 0 h; reads = λ v. hidden-is x 0 h }
 
   pub sum-owed : (x y z : Residues)
       → z .first ≡ (x .first + y .first) % s .first .n → z .second ≡ (x .second + y .second) % s .second .n → z .third ≡ (x .third + y .third) % s .third .n
@@ -229,14 +229,12 @@ module _ (s : System) where
       let h = sum-leaves x y z (hidden s x) (hidden s y) (hidden-leaves x a) (hidden-leaves y b) e f g in
       record { wf = leaves-formed z _ h; reads = λ v. hidden-is z _ h }
 
-  pub opposite-owed : (x z : Residues)
-      → z .first < s .first .n → z .second < s .second .n → z .third < s .third .n
+  pub opposite-owed : (x z : Residues) → formed s z ≡ true
       → (x .first + z .first) % s .first .n ≡ 0 → (x .second + z .second) % s .second .n ≡ 0 → (x .third + z .third) % s .third .n ≡ 0
       → formed s x ≡ true → Opposite (meant s) x z
-  opposite-owed x z p q r e f g a =
+  opposite-owed x z w e f g a =
       let m : ℕ = hidden s x in
       let N : ℕ = product s in
-      let w : formed s z ≡ true = parts-formed z p q r in
       let l = hidden-leaves x a in
       let low : m < N = l .below in
       let h = opposite-leaves x z m l w e f g in
@@ -251,6 +249,25 @@ module _ (s : System) where
   sealed-owed m word x within taken e f g =
       let h = residue-leaves m x e f g in
       record { within = within; taken = lt-ltb word (product s) taken; wf = leaves-formed x (residue m (product s)) h; hidden = hidden-is x (residue m (product s)) h }
+
+-- numbers of which one has an inverse modulo the other are coprime, as 3, 5 and 7 are
+pub figure : Figure
+figure = record {
+  lawful = record {
+    one = record { odd = refl; least = omega arith; most = omega arith };
+    two = record { odd = refl; least = omega arith; most = omega arith };
+    three = record { odd = refl; least = omega arith; most = omega arith };
+    one-two = inverse-coprime 3 5 2 refl;
+    one-three = inverse-coprime 3 7 5 refl;
+    two-three = inverse-coprime 5 7 3 refl;
+  };
+  hides = λ s p q r. hidden-is s (residues 2 3 2) 23 (record {
+    below = rw (p, q, r) (omega arith);
+    one = rw p refl;
+    two = rw q refl;
+    three = rw r refl;
+  });
+}
 
 pub one-is-hidden : OneIsHidden
 one-is-hidden s x f = record { leaves = hidden-leaves s x f; only = λ k h. sym (hidden-is s x k h) }

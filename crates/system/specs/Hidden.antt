@@ -5,6 +5,7 @@ use mathlib.Core.Bool.{Bool, true, _&&_}
 use lib.Dec.{ltb}
 use Rattle.system.specs.declared.residues.Residues.{Residues}
 use Rattle.system.specs.declared.residues.System.{System}
+use Rattle.system.specs.Moduli.{Lawful}
 
 -- the modulus of the system: the product of the three
 abbrev pub product : System → ℕ
@@ -26,11 +27,11 @@ pub record Leaves (s : System) (x : Residues) (n : ℕ) : Type 0 where
   pub three : n % s .third .n ≡ x .third
 
 -- a mixed-radix digit: base, raised by the multiple of a that makes it leave x modulo m, where u is an inverse of a modulo m
-abbrev pub raised : (base a m u x : ℕ) → ℕ
+unfoldable pub raised : (base a m u x : ℕ) → ℕ
 raised base a m u x = base + a * (((x + (m - base % m)) * u) % m)
 
 -- the number that the residues hide, digit by digit: first modulo the first modulus, then their product, then that of all three
-unfoldable pub hidden : System → Residues → ℕ
+abbrev pub hidden : System → Residues → ℕ
 hidden s x =
     raised (raised (x .first) (s .first .n) (s .second .n) (s .inverse) (x .second)) (s .first .n * s .second .n) (s .third .n) (s .joint) (x .third)
 
@@ -42,3 +43,8 @@ pub record TheOne (s : System) (x : Residues) (n : ℕ) : Type 0 where
 -- in every system three residues that are each below their modulus are left by one number, which is the hidden one
 abbrev pub OneIsHidden : Type 0
 OneIsHidden = (s : System) (x : Residues) → formed s x ≡ true → TheOne s x (hidden s x)
+
+-- the moduli 3, 5 and 7 are lawful, and in every system of them the residues 2, 3 and 2 hide 23
+pub record Figure : Type 0 where
+  pub lawful : Lawful 3 5 7
+  pub hides : (s : System) → s .first .n ≡ 3 → s .second .n ≡ 5 → s .third .n ≡ 7 → hidden s (residues 2 3 2) ≡ 23

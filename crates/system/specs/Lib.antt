@@ -1,3 +1,4 @@
+pub mod Admission
 pub mod Hidden
 pub mod Making
 pub mod Meant

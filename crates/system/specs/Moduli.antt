@@ -23,7 +23,13 @@ pub record Lawful (p q r : ℕ) : Type 0 where
   pub one-three : Coprime p r
   pub two-three : Coprime q r
 
--- an answer to the search for an inverse: a number that multiplies a to 1 modulo m, or none, and then a and m have a common factor
+-- u is an inverse of a modulo m, and a and m have no common factor
+pub record Inverts (a m u : ℕ) : Type 0 where
+  pub below : u < m
+  pub product : (a * u) % m ≡ 1
+  pub coprime : Coprime a m
+
+-- an answer to the search for an inverse of a modulo m: one, or none where a and m have a common factor
 abbrev pub Inverse : ℕ → ℕ → Option ℕ → Type 0
-Inverse a m (Some u) = (u < m) × ((a * u) % m ≡ 1)
+Inverse a m (Some u) = Inverts a m u
 Inverse a m None = Coprime a m → ⊥

@@ -3,6 +3,7 @@ ghost use Rattle.std.specs.Orderings.{Decides};
 ghost use Rattle.system.specs.Making.{Made};
 ghost use Rattle.system.specs.Moduli.{Suits};
 use crate::euclid::inverse;
+use crate::euclid::joint_inverse;
 use crate::residues::System;
 use integers::Modulus;
 use refusal::Refusal;
@@ -32,7 +33,7 @@ impl System {
         let Some(second_to_third) = inverse(second, third) else {
             return Err(Refusal::Modulus);
         };
-        let joint = first_to_third * second_to_third % third;
+        let joint = joint_inverse(first, second, third, first_to_third, second_to_third);
         Ok(System {
             first: Modulus { n: first },
             second: Modulus { n: second },

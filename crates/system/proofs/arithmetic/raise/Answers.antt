@@ -5,9 +5,10 @@ use borrow.Author.Needs.{needs}
 use Rattle.std.proofs.shelf.Bits.{mul-lt}
 use Rattle.system.specs.Hidden.{raised}
 use Rattle.system.proofs.Congruence.{raised-below}
-use Rattle.system.proofs.sealing.raise.Needs as need
+use Rattle.system.proofs.arithmetic.raise.Needs as need
 
 pub add-result : need.add-result
+unfolding raised
 add-result c =
     let filled =
     raised-below (c .args .base) (c .args .factor) (c .args .modulus .n) (c .args .inverse) (c .args .residue)
@@ -17,6 +18,7 @@ add-result c =
     search needs
 
 pub returns : need.returns
+unfolding raised
 returns c =
     record {
       value = refl;
