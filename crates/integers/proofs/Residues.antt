@@ -1,7 +1,7 @@
 -- The laws of residues: a residue is the one number below n that differs by a multiple of n; sums, opposites, differences and
 -- multiples go by residues; the meaning of a residue is the one whole number within half of n.
 use Prim.Native.Nat.{ℕ, zero, suc, _+_, _-_, _*_, _/_, _%_, _≤_, _<_}
-use mathlib.Core.Path.{_≡_, refl, sym, _∙_, ap}
+use mathlib.Core.Path.{_≡_, refl, sym, _∙_, ap, ap₂}
 use mathlib.Core.Bool.{Bool, true, false, cond}
 use native.Mathlib.Nat.{mod-lt, mod-eq-of-lt, mod-add-div', mod-self, mod-add-mod, suc-mul, add-mod-mod}
 use native.Mathlib.Omega.{arith}
@@ -155,3 +155,23 @@ pub lack-cancels : (a n : ℕ) → 0 < n → (a + (n - a % n) % n) % n ≡ 0
 lack-cancels a n z =
     let e : a % n + (n - a % n) ≡ n = omega (arith, mod-lt a z) in
     add-mod-mod a (n - a % n) n ∙ sym (mod-add-mod a n (n - a % n)) ∙ ap (λ x. x % n) e ∙ mod-self n
+
+-- ---- equal residues are kept
+
+pub same-sum : (a a' b b' : ℤ) (n : ℕ) → 0 < n → residue a n ≡ residue a' n → residue b n ≡ residue b' n → residue (a +ℤ b) n ≡ residue (a' +ℤ b') n
+same-sum a a' b b' n z p q = residue-sum a b n z ∙ ap₂ (λ x y. (x + y) % n) p q ∙ sym (residue-sum a' b' n z)
+
+pub same-opposite : (a a' : ℤ) (n : ℕ) → 0 < n → residue a n ≡ residue a' n → residue (negℤ a) n ≡ residue (negℤ a') n
+same-opposite a a' n z p = residue-opposite a n z ∙ ap (λ x. (n - x) % n) p ∙ sym (residue-opposite a' n z)
+
+pub same-difference : (a a' b b' : ℤ) (n : ℕ) → 0 < n → residue a n ≡ residue a' n → residue b n ≡ residue b' n → residue (a -ℤ b) n ≡ residue (a' -ℤ b') n
+same-difference a a' b b' n z p q = same-sum a a' (negℤ b) (negℤ b') n z p (same-opposite b b' n z q)
+
+pub same-multiple : (c a a' : ℤ) (n : ℕ) → 0 < n → residue a n ≡ residue a' n → residue (c *ℤ a) n ≡ residue (c *ℤ a') n
+same-multiple c a a' n z p = residue-multiple c a n z ∙ ap (λ x. residue (c *ℤ pos x) n) p ∙ sym (residue-multiple c a' n z)
+
+-- the number below n that brings the sum with a to 0 is the residue of −a
+pub residue-cancels : (a r n : ℕ) → r < n → (a + r) % n ≡ 0 → r ≡ residue (negℤ (pos a)) n
+residue-cancels a r n h e =
+    residue-only (negℤ (pos a)) n r
+    (record { below = h; times = negℤ (pos ((a + r) / n)); differs = rw (neg-left (pos ((a + r) / n)) (pos n)) (omega (arith, ints, mod-add-div' (a + r) n)) })

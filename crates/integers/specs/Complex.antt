@@ -6,6 +6,7 @@ use Rattle.integers.specs.declared.Complex.{Complex}
 
 infixl 6 _⊕_ _⊖_
 infixl 7 _⊗_
+infixr 7 _⊙_
 -- the complex number re + j·im
 abbrev pub complex : ℤ → ℤ → Complex
 complex a b = record { re = a; im = b }
@@ -27,3 +28,7 @@ real a = complex a (pos 0)
 -- the factor −j: (a + jb)(−j) = b − ja
 abbrev pub quarterTurn : Complex → Complex
 quarterTurn x = complex (x .im) (negℤ (x .re))
+
+-- the multiple by a whole number
+abbrev pub _⊙_ : ℤ → Complex → Complex
+a ⊙ x = complex (a *ℤ x .re) (a *ℤ x .im)

@@ -7,6 +7,7 @@ use Rattle.std.specs.declared.result.Result.{Result}
 use Rattle.std.specs.declared.result.Result.the-variants.{Ok, Err}
 use Rattle.refusal.specs.declared.kinds.Refusal.{Refusal}
 use Rattle.integers.specs.declared.Complex.{Complex}
+use Rattle.integers.specs.Complex.{complex}
 use Rattle.integers.specs.Residue.{half, centred}
 use Rattle.scheme.specs.Meaning.{Meaning, Sound, Sealed, TooLarge, NotTaken, Refuses, hides}
 
@@ -48,6 +49,10 @@ SealsPair s limit z words (Err e) = Refuses (room s limit < extent z) (Unsealabl
 -- the whole number that a number stands for: the meaning of the residue that it hides
 abbrev pub means : {Number : Type 0} → Meaning Number → Number → ℤ
 means s x = centred (hides s x) (s .modulus)
+
+-- the complex whole number that a hidden pair stands for
+abbrev pub meansPair : {Number : Type 0} → Meaning Number → Number × Number → Complex
+meansPair s p = complex (means s (p .0)) (means s (p .1))
 
 -- what was sealed and opened again: m itself, where m could be sealed
 pub record Reopened {Number : Type 0} (s : Meaning Number) (m : ℤ) (word : ℕ) (r : ℤ) : Type 0 where
