@@ -4,6 +4,8 @@ mod calls;
 mod euclid;
 mod making;
 mod residues;
+#[cfg(test)]
+mod tests;
 mod theorems;
 
 pub use calls::SystemScheme;
