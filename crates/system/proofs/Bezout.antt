@@ -1,11 +1,10 @@
 -- Extended Euclid's algorithm: what its loop keeps, and what it answers.
-use Prim.Native.Nat.{ℕ, zero, _+_, _-_, _*_, _/_, _%_, _≤_, _<_, _∣_}
-use mathlib.Core.Path.{_≡_, refl, sym, ap, _∙_}
+use Prim.Native.Nat.{ℕ, _+_, _-_, _*_, _/_, _%_, _≤_, _<_, _∣_}
+use mathlib.Core.Path.{_≡_, sym, ap, _∙_}
 use native.Mathlib.Nat.{
   add-mul,
   mul-add,
   mul-assoc,
-  mul-comm,
   mul-one,
   mul-zero,
   mul-left-comm,
@@ -22,12 +21,7 @@ use native.Mathlib.Nat.{
   dvd-zero,
   add-assoc,
   eq-one-of-dvd-one,
-  dvd-sub,
   dvd-mul-right-of-dvd,
-  dvd-mul-right,
-  dvd-trans,
-  dvd-add-iff-right,
-  mod-eq-zero-of-dvd,
 }
 use native.Mathlib.Omega.{arith}
 use Rattle.system.specs.Moduli.{Coprime, Inverts}

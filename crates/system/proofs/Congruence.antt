@@ -1,7 +1,7 @@
 -- Remainders of products, inverses modulo a number, and the mixed-radix step: pure number theory.
-use Prim.Native.Nat.{ℕ, zero, _+_, _-_, _*_, _/_, _%_, _≤_, _<_, _∣_}
-use mathlib.Core.Path.{_≡_, refl, sym, ap, _∙_}
-use mathlib.Core.Logic.{_⊎_, inl, inr, ⊎-elim}
+use Prim.Native.Nat.{ℕ, _+_, _-_, _*_, _/_, _%_, _≤_, _<_, _∣_}
+use mathlib.Core.Path.{_≡_, sym, ap, _∙_}
+use mathlib.Core.Logic.{⊎-elim}
 use native.Mathlib.Nat.{
   add-mul,
   mul-add,
@@ -12,15 +12,11 @@ use native.Mathlib.Nat.{
   mod-add-div,
   div-add-mod,
   add-mul-mod-self-left,
-  mul-add-mod-self-left,
   add-mod-mod,
   mod-add-mod,
-  add-mod,
-  mod-mod,
   mod-lt,
   mod-eq-of-lt,
   add-mod-right,
-  mul-mod-right,
   mul-div-cancel',
   dvd-mul-right,
   dvd-mul-left-of-dvd,
@@ -28,14 +24,10 @@ use native.Mathlib.Nat.{
   mul-dvd-mul-left,
   dvd-sub,
   le-of-dvd,
-  dvd-trans,
-  mod-eq-zero-of-dvd,
   mul-le-mul-left,
   mul-left-comm,
   mul-mul-mul-comm,
   eq-zero-or-pos,
-  eq-one-of-dvd-one,
-  dvd-mod-iff,
 }
 use native.Mathlib.Omega.{arith}
 use Rattle.std.proofs.shelf.Tests.{cases-lt}

@@ -1,5 +1,5 @@
 -- The laws of the residue system: the hidden number is the one that leaves the residues, and sums and opposites go residue by residue.
-use Prim.Native.Nat.{ℕ, zero, _+_, _-_, _*_, _/_, _%_, _^_, _≤_, _<_, _∣_}
+use Prim.Native.Nat.{ℕ, _+_, _-_, _*_, _%_, _^_, _≤_, _<_, _∣_}
 use mathlib.Core.Path.{_≡_, refl, sym, ap, _∙_}
 use mathlib.Core.Bool.{true, _&&_}
 use mathlib.Core.Logic.{⊎-elim}
@@ -31,10 +31,10 @@ use Rattle.scheme.specs.Meaning.{Sound, Zero, Sum, Opposite, Sealed}
 use Rattle.std.proofs.shelf.Tests.{ltb-true, lt-ltb, and-parts, and-from, cases-lt}
 use Rattle.system.specs.declared.residues.Residues.{Residues}
 use Rattle.system.specs.declared.residues.System.{System}
-use Rattle.system.specs.Hidden.{product, residues, formed, Leaves, raised, hidden, TheOne, OneIsHidden, Figure}
+use Rattle.system.specs.Hidden.{product, residues, formed, Leaves, raised, hidden, OneIsHidden, Figure}
 use Rattle.system.specs.Meant.{meant}
 use Rattle.system.proofs.Bezout.{inverse-coprime}
-use Rattle.system.proofs.Congruence.{mul-mod-first, mod-below, differ, alike, cancel, joined, none-below, raised-old, raised-new, raised-below}
+use Rattle.system.proofs.Congruence.{mul-mod-first, differ, cancel, joined, none-below, raised-old, raised-new, raised-below}
 
 module _ (s : System) where
   -- the moduli are above 0
@@ -250,7 +250,7 @@ module _ (s : System) where
       let h = residue-leaves m x e f g in
       record { within = within; taken = lt-ltb word (product s) taken; wf = leaves-formed x (residue m (product s)) h; hidden = hidden-is x (residue m (product s)) h }
 
--- numbers of which one has an inverse modulo the other are coprime, as 3, 5 and 7 are
+-- 3, 5 and 7 are lawful by the inverses 2 and 5 of 3 and the inverse 3 of 5; 23 leaves 2, 3 and 2
 pub figure : Figure
 figure = record {
   lawful = record {

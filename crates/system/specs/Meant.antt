@@ -1,5 +1,4 @@
 -- What a residue system means as a scheme.
-use mathlib.Core.Path.{_≡_}
 use lib.Dec.{ltb}
 use Rattle.scheme.specs.Meaning.{Meaning}
 use Rattle.system.specs.declared.residues.Residues.{Residues}

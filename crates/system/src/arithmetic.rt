@@ -11,7 +11,7 @@ use integers::Modulus;
 use refusal::Refusal;
 
 // Three zeros.
-pub fn zeros() -> Residues
+pub(crate) fn zeros() -> Residues
     ensures { λ r. ⌜ r ≡ residues 0 0 0 ⌝ }
 {
     Residues {
@@ -43,7 +43,7 @@ impl System {
     }
 
     // The modulus of the whole system: the product of the three.
-    pub fn whole(&self) -> Modulus
+    pub(crate) fn whole(&self) -> Modulus
         ensures { λ r. ⌜ r .n ≡ product (now (self .entry)) ⌝ }
     {
         Modulus {
@@ -52,14 +52,14 @@ impl System {
     }
 
     // Whether each residue is below its modulus.
-    pub fn is_well_formed(&self, x: Residues) -> bool
+    pub(crate) fn is_well_formed(&self, x: Residues) -> bool
         ensures { λ r. ⌜ r ≡ formed (now (self .entry)) x ⌝ }
     {
         x.first < self.first.n && x.second < self.second.n && x.third < self.third.n
     }
 
     // The sums of the residues.
-    pub fn sums(&self, a: Residues, b: Residues) -> Residues
+    pub(crate) fn sums(&self, a: Residues, b: Residues) -> Residues
         ensures first { λ r. ⌜ r .first ≡ (a .first + b .first) % now (self .entry) .first .n ⌝ }
         ensures second { λ r. ⌜ r .second ≡ (a .second + b .second) % now (self .entry) .second .n ⌝ }
         ensures third { λ r. ⌜ r .third ≡ (a .third + b .third) % now (self .entry) .third .n ⌝ }
@@ -72,7 +72,7 @@ impl System {
     }
 
     // The residues that bring the sums to 0.
-    pub fn opposites(&self, a: Residues) -> Residues
+    pub(crate) fn opposites(&self, a: Residues) -> Residues
         ensures formed { λ r. ⌜ formed (now (self .entry)) r ≡ true ⌝ }
         ensures first { λ r. ⌜ (a .first + r .first) % now (self .entry) .first .n ≡ 0 ⌝ }
         ensures second { λ r. ⌜ (a .second + r .second) % now (self .entry) .second .n ≡ 0 ⌝ }
@@ -86,7 +86,7 @@ impl System {
     }
 
     // The residues of a whole number.
-    pub fn remainders(&self, m: i64) -> Residues
+    pub(crate) fn remainders(&self, m: i64) -> Residues
         ensures first { λ r. ⌜ r .first ≡ residueOf m (now (self .entry) .first .n) ⌝ }
         ensures second { λ r. ⌜ r .second ≡ residueOf m (now (self .entry) .second .n) ⌝ }
         ensures third { λ r. ⌜ r .third ≡ residueOf m (now (self .entry) .third .n) ⌝ }
@@ -100,7 +100,7 @@ impl System {
 
     // Whether m can be sealed with the mask word: refuses with Large where the size of m is above half of the modulus, else with
     // Mask where the word is not below the modulus.
-    pub fn admit(&self, m: i64, word: u64) -> Result<(), Refusal>
+    pub(crate) fn admit(&self, m: i64, word: u64) -> Result<(), Refusal>
         ensures { λ r. ⌜ Admits (now (self .entry)) m word r ⌝ }
     {
         let whole = self.whole();
@@ -114,7 +114,7 @@ impl System {
     }
 
     // The number that well-formed residues hide, digit by digit in mixed radix.
-    pub fn combine(&self, x: Residues) -> u64
+    pub(crate) fn combine(&self, x: Residues) -> u64
         requires { ⌜ formed (now self) x ≡ true ⌝ }
         ensures { λ r. ⌜ r ≡ hidden (now (self .entry)) x ⌝ }
     {

@@ -4,7 +4,7 @@ ghost use mathlib.Core.Path.{_≡_};
 ghost use Rattle.system.specs.Moduli.{Inverse};
 
 // The number below `modulus` whose product with `number` leaves 1, or none where a number other than 1 divides both.
-pub fn inverse(number: u64, modulus: u64) -> Option<u64>
+pub(crate) fn inverse(number: u64, modulus: u64) -> Option<u64>
     requires { ⌜ 2 ≤ modulus ⌝ ∗ ⌜ modulus ≤ 1_048_575 ⌝ }
     ensures { λ r. ⌜ Inverse number modulus r ⌝ }
 {
@@ -25,7 +25,7 @@ pub fn inverse(number: u64, modulus: u64) -> Option<u64>
 }
 
 // An inverse of the product a · b modulo `modulus`, from an inverse of a and one of b.
-pub fn joint_inverse(a: u64, b: u64, modulus: u64, of_a: u64, of_b: u64) -> u64
+pub(crate) fn joint_inverse(a: u64, b: u64, modulus: u64, of_a: u64, of_b: u64) -> u64
     requires small { ⌜ modulus ≤ 1_048_575 ⌝ ∗ ⌜ «of_a» < modulus ⌝ ∗ ⌜ «of_b» < modulus ⌝ }
     requires inverts { ⌜ (a * «of_a») % modulus ≡ 1 ⌝ ∗ ⌜ (b * «of_b») % modulus ≡ 1 ⌝ }
     ensures below { λ r. ⌜ r < modulus ⌝ }

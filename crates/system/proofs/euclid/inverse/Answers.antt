@@ -1,5 +1,5 @@
 use native.Mathlib.Omega.{arith}
-use Rattle.system.proofs.Bezout.{Going, begins, turns, ends, found}
+use Rattle.system.proofs.Bezout.{begins, turns, ends, found}
 use Rattle.system.proofs.euclid.inverse.Needs as need
 
 pub loop-next-holds : need.loop-next-holds
