@@ -1,2 +1,3 @@
-pub mod Ring
+pub mod ComplexRing
 pub mod Residues
+pub mod Ring

@@ -7,7 +7,7 @@ use native.Mathlib.Omega.{arith}
 use borrow.Author.Differences.{ints}
 use lib.IntN.{ℤ, pos, negsuc, natAbs, negℤ, _+ℤ_, _-ℤ_, _*ℤ_, zero-*ℤ}
 use Rattle.integers.specs.declared.Complex.{Complex}
-use Rattle.integers.specs.Complex.{complex, _⊕_, _⊖_, _⊗_, quarterTurn}
+use Rattle.integers.specs.Complex.{complex, _⊕_, _⊖_, _⊗_, _⊙_, quarterTurn}
 use Rattle.integers.specs.Residue.{residue}
 use Rattle.integers.proofs.Ring.{distrib-right, neg-left, one-left}
 use Rattle.integers.proofs.Residues.{residue-pos, residue-small, residue-cancels, residue-twice, same-sum, same-opposite, same-difference, same-multiple}
@@ -55,8 +55,8 @@ module _ {Number : Type 0} (s : Meaning Number) (sound : Sound s) (v : View) whe
       }
 
   -- c times what is read in x, for what x stands for
-  pub multiple-stands : (c a : ℤ) (x r : Number) → Stands s v a x → Stands s v (c *ℤ read s v x) r → Stands s v (c *ℤ a) r
-  multiple-stands c a x r p h = stands-same (c *ℤ read s v x) (c *ℤ a) r (same-multiple c (read s v x) a (s .modulus) some (read-agrees a x p)) h
+  pub carry-multiple : (c a : ℤ) (x r : Number) → Stands s v a x → Stands s v (c *ℤ read s v x) r → Stands s v (c *ℤ a) r
+  carry-multiple c a x r p h = stands-same (c *ℤ read s v x) (c *ℤ a) r (same-multiple c (read s v x) a (s .modulus) some (read-agrees a x p)) h
 
   stands-equal : (a b : ℤ) (x : Number) → a ≡ b → Stands s v a x → Stands s v b x
   stands-equal a b x e h = rw e at h
@@ -107,6 +107,71 @@ module _ {Number : Type 0} (s : Meaning Number) (sound : Sound s) (v : View) whe
   difference-stands x y o r p q h k =
       sum-stands (read s v x) (negℤ (read s v y)) x o r (stands-itself x p) (opposite-stands (read s v y) y o (stands-itself y q) h) k
 
+  pub carry-sum : (a b : ℤ) (x y r : Number) → Stands s v a x → Stands s v b y → Stands s v (read s v x +ℤ read s v y) r → Stands s v (a +ℤ b) r
+  carry-sum a b x y r p q h =
+      stands-same (read s v x +ℤ read s v y) (a +ℤ b) r (same-sum (read s v x) a (read s v y) b (s .modulus) some (read-agrees a x p) (read-agrees b y q)) h
+
   pub carry-difference : (a b : ℤ) (x y r : Number) → Stands s v a x → Stands s v b y → Stands s v (read s v x -ℤ read s v y) r → Stands s v (a -ℤ b) r
   carry-difference a b x y r p q h =
       stands-same (read s v x -ℤ read s v y) (a -ℤ b) r (same-difference (read s v x) a (read s v y) b (s .modulus) some (read-agrees a x p) (read-agrees b y q)) h
+
+  -- ---- pairs: from what is read to what is stood for
+
+  pub pair-itself : (p : Number × Number) → WellFormed s p → StandsPair s v (readPair s v p) p
+  pair-itself p w = record { re = stands-itself (p .0) (w .re); im = stands-itself (p .1) (w .im) }
+
+  pub pair-well-formed : (z : Complex) (p : Number × Number) → StandsPair s v z p → WellFormed s p
+  pair-well-formed z p h = record { re = h .re .wf; im = h .im .wf }
+
+  pub carry-pair-sum : (a b : Complex) (p q r : Number × Number) → StandsPair s v a p → StandsPair s v b q → StandsPair s v (readPair s v p ⊕ readPair s v q) r → StandsPair s v (a ⊕ b) r
+  carry-pair-sum a b p q r f g h =
+      record {
+        re = carry-sum (a .re) (b .re) (p .0) (q .0) (r .0) (f .re) (g .re) (h .re);
+        im = carry-sum (a .im) (b .im) (p .1) (q .1) (r .1) (f .im) (g .im) (h .im);
+      }
+
+  pub carry-pair-difference : (a b : Complex) (p q r : Number × Number) → StandsPair s v a p → StandsPair s v b q → StandsPair s v (readPair s v p ⊖ readPair s v q) r → StandsPair s v (a ⊖ b) r
+  carry-pair-difference a b p q r f g h =
+      record {
+        re = carry-difference (a .re) (b .re) (p .0) (q .0) (r .0) (f .re) (g .re) (h .re);
+        im = carry-difference (a .im) (b .im) (p .1) (q .1) (r .1) (f .im) (g .im) (h .im);
+      }
+
+  pub carry-pair-multiple : (c : ℤ) (a : Complex) (p r : Number × Number) → StandsPair s v a p → StandsPair s v (c ⊙ readPair s v p) r → StandsPair s v (c ⊙ a) r
+  carry-pair-multiple c a p r f h =
+      record { re = carry-multiple c (a .re) (p .0) (r .0) (f .re) (h .re); im = carry-multiple c (a .im) (p .1) (r .1) (f .im) (h .im) }
+
+  pub carry-pair-product : (w a : Complex) (p r : Number × Number) → StandsPair s v a p → StandsPair s v (w ⊗ readPair s v p) r → StandsPair s v (w ⊗ a) r
+  carry-pair-product w a p r f h =
+      record {
+        re =
+            stands-same (w .re *ℤ x -ℤ w .im *ℤ y) (w .re *ℤ a .re -ℤ w .im *ℤ a .im) (r .0)
+            (same-difference (w .re *ℤ x) (w .re *ℤ a .re) (w .im *ℤ y) (w .im *ℤ a .im) n some (same-multiple (w .re) x (a .re) n some e) (same-multiple (w .im) y (a .im) n some d))
+            (h .re);
+        im =
+            stands-same (w .re *ℤ y +ℤ w .im *ℤ x) (w .re *ℤ a .im +ℤ w .im *ℤ a .re) (r .1)
+            (same-sum (w .re *ℤ y) (w .re *ℤ a .im) (w .im *ℤ x) (w .im *ℤ a .re) n some (same-multiple (w .re) y (a .im) n some d) (same-multiple (w .im) x (a .re) n some e))
+            (h .im);
+      }
+    where
+      n : ℕ
+      n = s .modulus
+
+      x : ℤ
+      x = read s v (p .0)
+
+      y : ℤ
+      y = read s v (p .1)
+
+      e : residue x n ≡ residue (a .re) n
+      e = read-agrees (a .re) (p .0) (f .re)
+
+      d : residue y n ≡ residue (a .im) n
+      d = read-agrees (a .im) (p .1) (f .im)
+
+  pub carry-pair-turn : (a : Complex) (p r : Number × Number) → StandsPair s v a p → StandsPair s v (quarterTurn (readPair s v p)) r → StandsPair s v (quarterTurn a) r
+  carry-pair-turn a p r f h =
+      record {
+        re = stands-same (read s v (p .1)) (a .im) (r .0) (read-agrees (a .im) (p .1) (f .im)) (h .re);
+        im = stands-same (negℤ (read s v (p .0))) (negℤ (a .re)) (r .1) (same-opposite (read s v (p .0)) (a .re) (s .modulus) some (read-agrees (a .re) (p .0) (f .re))) (h .im);
+      }

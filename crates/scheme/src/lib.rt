@@ -10,5 +10,6 @@ pub use hidden::multiple;
 pub use sealing::modulus_of;
 pub use sealing::open_centred;
 pub use sealing::seal_and_open;
+pub use sealing::seal_residue;
 pub use sealing::seal_within;
 pub use sealing::sealed_opens;

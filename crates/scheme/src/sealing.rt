@@ -1,6 +1,9 @@
 // Sealing samples under a limit, and opening numbers as whole numbers, under every scheme.
 ghost use mathlib.Core.Bool.{true};
 ghost use mathlib.Core.Path.{_≡_};
+ghost use mathlib.Core.List.{[]};
+ghost use lib.IntN.{pos};
+ghost use Rattle.scheme.specs.Hidden.{Stands};
 ghost use Rattle.scheme.specs.Sealing.{SealsWithin, Reopens, SealedOpens, means};
 use crate::calls::Scheme;
 use integers::Modulus;
@@ -32,6 +35,18 @@ pub fn seal_within<S: Scheme>(
         return Err(Refusal::Large);
     }
     s.seal(m, word)
+}
+
+// A number that hides the residue of r: the meaning of that residue, sealed with the word 1, which no scheme refuses.
+pub fn seal_residue<S: Scheme>(s: &mut S, r: u64) -> S::Number
+    ensures value { λ x. ⌜ Stands (meaning (now (s .entry))) [] (pos r) x ⌝ }
+    ensures frame { λ _. ⌜ meaning (now (s .exit)) ≡ meaning (now (s .entry)) ⌝ }
+{
+    let modulus = modulus_of(s);
+    match s.seal(modulus.centred(r), 1) {
+        Ok(x) => x,
+        Err(_) => unreachable(),
+    }
 }
 
 // The whole number that a hidden number means: the hidden residue up to (N − 1)/2 itself, above it less N.
