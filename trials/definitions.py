@@ -4,7 +4,7 @@ Every number here is a Python integer; nothing is shared with the crates.
 """
 
 from fractions import Fraction
-from math import isqrt
+from math import gcd, isqrt
 
 
 def nearest_root(x):
@@ -87,3 +87,27 @@ def figures(method, size, sample, scale):
         weight = reached if radix == 2 else Fraction(5 * reached, 4)
         d, b, e = scale * d, growth * b, growth * e + d * weight * sample
     return d, b, int(e)
+
+
+def is_modulus(n):
+    """A modulus is odd, from 3 to 2^62 - 1."""
+    return n % 2 == 1 and 3 <= n < 2**62
+
+
+def is_system(moduli):
+    """Three odd moduli from 3 to 1,048,575, no two with a common factor."""
+    return all(m % 2 == 1 and 3 <= m <= 1048575 for m in moduli) and all(
+        gcd(moduli[i], moduli[j]) == 1 for i in range(3) for j in range(i)
+    )
+
+
+def meaning(residue, n):
+    """The whole number that a residue modulo n means."""
+    return residue if residue <= (n - 1) // 2 else residue - n
+
+
+def seal_refusal(m, word_taken, n, limit=None):
+    """The number and the word of the refusal to seal m, or None."""
+    if abs(m) > (n - 1) // 2 or (limit is not None and abs(m) > limit):
+        return "11 large"
+    return None if word_taken else "12 mask"

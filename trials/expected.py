@@ -2,7 +2,20 @@
 
 import sys
 
-from definitions import C_TABLE, METHODS, S_TABLE, figures, fine, plan_refusal, spread, twiddle
+from definitions import (
+    C_TABLE,
+    METHODS,
+    S_TABLE,
+    figures,
+    fine,
+    is_modulus,
+    is_system,
+    meaning,
+    plan_refusal,
+    seal_refusal,
+    spread,
+    twiddle,
+)
 
 
 def sweep():
@@ -55,4 +68,69 @@ def cards():
         print(f"  least modulus {least}: {verdict}")
 
 
-{"sweep": sweep, "harmonics": cards}[sys.argv[1]]()
+U64, I64_MAX, I64_MIN = 2**64 - 1, 2**63 - 1, -(2**63)
+
+
+def scheme_table(name, n, takes):
+    print(name, "modulus", n)
+    print(name, "zero", 0)
+    half = (n - 1) // 2
+
+    def seals(m):
+        for word in [0, 1, n - 1, n, U64]:
+            print(f"{name} seal {m} {word}: {seal_refusal(m, takes(word), n) or m}")
+        for limit in [0, (abs(m) - 1) % 2**64, abs(m), U64]:
+            print(f"{name} within {limit} {m}: {seal_refusal(m, True, n, limit) or m}")
+
+    for m in [0, 1, -1, half, -half, half + 1, -half - 1]:
+        seals(m)
+        print(name, "numbers", m, half)
+        if abs(m) <= half:
+            sums = [meaning(x % n, n) for x in (m + half, m - half, -m)]
+            print(name, "sum", *sums, "true")
+            for c in [0, 1, -1, 2, 3, -7, 1000, I64_MAX, I64_MIN]:
+                print(f"{name} times {c}: {meaning(c * m % n, n)}")
+    seals(I64_MAX)
+    seals(I64_MIN)
+
+
+def schemes():
+    for n in [0, 1, 2, 3, 4, 81, 2**62 - 1, 2**62, 2**62 + 1, U64]:
+        if not is_modulus(n):
+            print(f"plain {n}: 13 modulus")
+            continue
+        scheme_table("plain", n, lambda w: w < n)
+        for x in [0, n - 1, n, U64]:
+            print("plain any", "true" if x < n else "false")
+        scheme_table("split", n, lambda w: w < n)
+        for halves in [(0, n - 1), (n, 0), (0, n), (U64, U64)]:
+            print("split any", "true" if max(halves) < n else "false")
+        scheme_table("split twice", n, lambda w: w < n)
+    for moduli in [
+        (3, 5, 7),
+        (1048575, 1048573, 1048571),
+        (1, 5, 7),
+        (3, 5, 8),
+        (3, 1048577, 7),
+        (9, 5, 15),
+        (5, 21, 9),
+        (7, 7, 9),
+        (0, U64, 3),
+    ]:
+        if not is_system(moduli):
+            print("system", f"{moduli[0]} {moduli[1]} {moduli[2]}: 13 modulus")
+            continue
+        n = moduli[0] * moduli[1] * moduli[2]
+        scheme_table("system", n, lambda w: w < n)
+        for formed in ["true", "false", "false", "false", "false"]:
+            print("system any", formed)
+        scheme_table("split system", n, lambda w: w < n)
+    for n in [2, 3, 540801, 2**62 - 1]:
+        if not is_modulus(n):
+            print(f"rerandomised {n}: 13 modulus")
+            continue
+        scheme_table("rerandomised", n, lambda w: w % 2 == 1)
+        scheme_table("split rerandomised", n, lambda w: w < n)
+
+
+{"schemes_sweep": schemes, "sweep": sweep, "harmonics": cards}[sys.argv[1]]()
