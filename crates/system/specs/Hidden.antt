@@ -11,7 +11,7 @@ use Rattle.system.specs.Moduli.{Lawful}
 abbrev pub product : System → ℕ
 product s = s .first .n * s .second .n * s .third .n
 
--- three residues, by name
+-- three residues together
 abbrev pub residues : ℕ → ℕ → ℕ → Residues
 residues a b c = record { first = a; second = b; third = c }
 
@@ -30,7 +30,7 @@ pub record Leaves (s : System) (x : Residues) (n : ℕ) : Type 0 where
 unfoldable pub raised : (base a m u x : ℕ) → ℕ
 raised base a m u x = base + a * (((x + (m - base % m)) * u) % m)
 
--- the number that the residues hide, digit by digit: first modulo the first modulus, then their product, then that of all three
+-- the number that the residues hide, digit by digit in mixed radix: the first residue, raised to leave the second too, then the third
 abbrev pub hidden : System → Residues → ℕ
 hidden s x =
     raised (raised (x .first) (s .first .n) (s .second .n) (s .inverse) (x .second)) (s .first .n * s .second .n) (s .third .n) (s .joint) (x .third)
