@@ -66,6 +66,23 @@ def cards():
         least = 2 * b + 1
         verdict = f"fits {modulus}" if least <= modulus else f"{modulus} is refused, 5 narrow"
         print(f"  least modulus {least}: {verdict}")
+    print("\nOne sample on its way\n")
+    for sample, word in [(-57, 123456), (-57, modulus), (270401, 1)]:
+        refusal = seal_refusal(sample, word < modulus, modulus)
+        if refusal is not None:
+            print(f"split: {sample} with mask word {word} is refused, {refusal}")
+            continue
+        second = (sample - word) % modulus
+        print(f"split, modulus {modulus}: {sample} sealed with mask word {word}")
+        print(f"  the first house holds {word}, the second {second}")
+        print(f"  the reader opens {meaning((word + second) % modulus, modulus)}")
+    moduli = (79, 83, 89)
+    residues = [-57 % m for m in moduli]
+    whole = 79 * 83 * 89
+    opened = next(n for n in range(whole) if [n % m for m in moduli] == residues)
+    print(f"residue system 79, 83, 89, modulus {whole}: -57 sealed")
+    print(f"  the residues are {residues[0]}, {residues[1]}, {residues[2]}")
+    print(f"  the reader opens {meaning(opened, whole)}")
 
 
 U64, I64_MAX, I64_MIN = 2**64 - 1, 2**63 - 1, -(2**63)

@@ -46,7 +46,11 @@ pub impl Scheme for Rerandomised as RerandomisedScheme {
     fn sum(&mut self, a: u64, b: u64) -> u64 {
         let sum = self.modulus.sum(a, b);
         self.sums = self.sums.wrapping_add(1);
-        if self.sums % 2 == 0 { sum } else { sum + self.modulus.n }
+        if self.sums % 2 == 0 {
+            sum
+        } else {
+            sum + self.modulus.n
+        }
     }
 
     fn opposite(&mut self, a: u64) -> u64 {

@@ -44,7 +44,13 @@ fn print_seals<S: Scheme>(rt: &impl Print, name: &str, s: &mut S, m: i64) -> io:
 }
 
 // The sum, the difference and the opposite of two hidden numbers.
-fn print_sums<S: Scheme>(rt: &impl Print, name: &str, s: &mut S, x: S::Number, y: S::Number) -> io::Result<()> {
+fn print_sums<S: Scheme>(
+    rt: &impl Print,
+    name: &str,
+    s: &mut S,
+    x: S::Number,
+    y: S::Number,
+) -> io::Result<()> {
     let sum = s.sum(x, y);
     let less = difference(s, x, y);
     let opposite = s.opposite(x);
@@ -56,7 +62,12 @@ fn print_sums<S: Scheme>(rt: &impl Print, name: &str, s: &mut S, x: S::Number, y
 }
 
 // Multiples of a hidden number.
-fn print_multiples<S: Scheme>(rt: &impl Print, name: &str, s: &mut S, x: S::Number) -> io::Result<()> {
+fn print_multiples<S: Scheme>(
+    rt: &impl Print,
+    name: &str,
+    s: &mut S,
+    x: S::Number,
+) -> io::Result<()> {
     for c in [0, 1, -1, 2, 3, -7, 1000, i64::MAX, i64::MIN] {
         let times = multiple(s, c, x);
         let opened = open_centred(s, times);
@@ -66,7 +77,13 @@ fn print_multiples<S: Scheme>(rt: &impl Print, name: &str, s: &mut S, x: S::Numb
 }
 
 // Sums of two sealed numbers, multiples of the first.
-fn print_sealed<S: Scheme>(rt: &impl Print, name: &str, s: &mut S, a: i64, b: i64) -> io::Result<()> {
+fn print_sealed<S: Scheme>(
+    rt: &impl Print,
+    name: &str,
+    s: &mut S,
+    a: i64,
+    b: i64,
+) -> io::Result<()> {
     println!(rt, "{name} numbers {a} {b}")?;
     let Ok(x) = s.seal(a, 1) else {
         return Ok(());
@@ -88,7 +105,15 @@ fn print_scheme<S: Scheme>(rt: &impl Print, name: &str, s: &mut S) -> io::Result
     let Ok(half) = i64::try_from(modulus_of(s).half()) else {
         return Ok(());
     };
-    let ends = [0, 1, -1, half, half.wrapping_neg(), half.wrapping_add(1), !half];
+    let ends = [
+        0,
+        1,
+        -1,
+        half,
+        half.wrapping_neg(),
+        half.wrapping_add(1),
+        !half,
+    ];
     for m in ends {
         print_seals(rt, name, s, m)?;
         print_sealed(rt, name, s, m, half)?;
@@ -133,8 +158,16 @@ fn print_system(rt: &impl Print, first: u64, second: u64, third: u64) -> io::Res
         Err(refusal) => return println!(rt, "system {first} {second} {third}: {refusal}"),
     };
     print_scheme(rt, "system", &mut s)?;
-    let least = Residues { first: 0, second: 0, third: 0 };
-    let most = Residues { first: u64::MAX, second: u64::MAX, third: u64::MAX };
+    let least = Residues {
+        first: 0,
+        second: 0,
+        third: 0,
+    };
+    let most = Residues {
+        first: u64::MAX,
+        second: u64::MAX,
+        third: u64::MAX,
+    };
     for x in [
         least,
         Residues { first, ..least },
@@ -157,7 +190,18 @@ fn print_rerandomised(rt: &impl Print, n: u64) -> io::Result<()> {
 }
 
 fn main(rt: LibcRuntime) -> io::Result<()> {
-    for n in [0, 1, 2, 3, 4, 81, (1 << 62) - 1, 1 << 62, (1 << 62) + 1, u64::MAX] {
+    for n in [
+        0,
+        1,
+        2,
+        3,
+        4,
+        81,
+        (1 << 62) - 1,
+        1 << 62,
+        (1 << 62) + 1,
+        u64::MAX,
+    ] {
         print_plain(&rt, n)?;
     }
     for (first, second, third) in [
