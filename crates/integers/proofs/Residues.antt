@@ -1,6 +1,6 @@
 -- The laws of residues: a residue is the one number below n that differs by a multiple of n; sums, opposites, differences and
 -- multiples go by residues; the meaning of a residue is the one whole number within half of n.
-use Prim.Native.Nat.{ℕ, zero, suc, _+_, _-_, _*_, _/_, _%_, _≤_, _<_}
+use Prim.Native.Nat.{ℕ, zero, suc, _+_, _-_, _*_, _/_, _%_, _^_, _≤_, _<_}
 use mathlib.Core.Path.{_≡_, refl, sym, _∙_, ap, ap₂}
 use mathlib.Core.Bool.{Bool, true, false, cond}
 use native.Mathlib.Nat.{mod-lt, mod-eq-of-lt, mod-add-div', mod-self, mod-add-mod, suc-mul, add-mod-mod}
@@ -9,6 +9,9 @@ use borrow.Author.Differences.{ints, neg-is}
 use lib.Dec.{leb}
 use borrow.Author.Tests.{leb-true, leb-false, le-leb, lt-leb}
 use lib.IntN.{ℤ, pos, negsuc, natAbs, negℤ, _+ℤ_, _-ℤ_, _*ℤ_}
+use mir.Syntax.{w64}
+use mir.Val.{toZ, ofZ, SFits}
+use Rattle.std.proofs.shelf.Signed.{toZ-ofZ, toZ-pos}
 use Rattle.std.specs.Numbers.{remEuclid}
 use Rattle.integers.specs.Residue.{residue, IsResidue, half, centred}
 use Rattle.integers.proofs.Ring.{distrib-right, distrib-left, neg-left, neg-right, times-assoc, ring}
@@ -175,3 +178,8 @@ pub residue-cancels : (a r n : ℕ) → r < n → (a + r) % n ≡ 0 → r ≡ re
 residue-cancels a r n h e =
     residue-only (negℤ (pos a)) n r
     (record { below = h; times = negℤ (pos ((a + r) / n)); differs = rw (neg-left (pos ((a + r) / n)) (pos n)) (omega (arith, ints, mod-add-div' (a + r) n)) })
+
+-- the remainder by Euclid, to its bits and back
+pub residue-read : (m q : ℤ) (n : ℕ) → SFits w64 m → SFits w64 q → n < 2 ^ 63 → q ≡ remEuclid (toZ w64 (ofZ w64 m)) (toZ w64 n) → natAbs (toZ w64 (ofZ w64 q)) ≡ residue m n
+residue-read m q n f g h e =
+    ap natAbs (toZ-ofZ w64 q g ∙ e ∙ ap₂ remEuclid (toZ-ofZ w64 m f) (toZ-pos w64 n h) ∙ residue-euclid m n)

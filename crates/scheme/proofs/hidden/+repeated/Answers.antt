@@ -1,4 +1,5 @@
 use borrow.Author.Needs.{needs}
+use native.Mathlib.Omega.{arith}
 use mathlib.Core.Path.{_≡_, refl, _∙_}
 use mathlib.Core.Bool.{true}
 use Rattle.scheme.specs.Meaning.{Sum}
@@ -32,7 +33,7 @@ returns-then-size-eq1-2 g t c =
           λ w v.
           let p = c .repeated-above .ensures .value w v in
           let q = h (p .wf) (p .wf) in
-          odd-stands s k v (c .args .size) (c .args .x) y t (c .sum .result) (c .if-size-eq1-2 .taken) w p q (h2 (q .wf) w);
+          odd-stands s k v (c .args .size) (c .args .x) y t (c .sum .result) (omega arith) w p q (h2 (q .wf) w);
       frame = c .sum .ensures .frame ∙ f2;
     }
 
@@ -48,6 +49,6 @@ returns-else-size-eq1-2 g t c =
       value =
           λ w v.
           let p = c .repeated-above .ensures .value w v in
-          even-stands s k v (c .args .size) (c .args .x) y t (c .if-size-eq1-2 .left) p (h (p .wf) (p .wf));
+          even-stands s k v (c .args .size) (c .args .x) y t (omega arith) p (h (p .wf) (p .wf));
       frame = c .sum-twice .ensures .frame ∙ f;
     }

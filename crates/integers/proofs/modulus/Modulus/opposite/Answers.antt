@@ -1,4 +1,5 @@
-use Prim.Native.Nat.{_-_, _%_, _<_}
+use borrow.Author.Needs.{needs}
+use Prim.Native.Nat.{_<_}
 use native.Mathlib.Nat.{mod-lt}
 use native.Mathlib.Omega.{arith}
 use Rattle.integers.proofs.Residues.{lack-cancels}
@@ -7,4 +8,4 @@ use Rattle.integers.proofs.modulus.Modulus.opposite.Needs as need
 pub returns : need.returns
 returns c =
     let z : 0 < c .args .self .n = omega arith in
-    record { below = mod-lt (c .args .self .n - c .args .a % c .args .self .n) z; cancels = lack-cancels (c .args .a) (c .args .self .n) z }
+    record { below = search mod-lt; cancels = search lack-cancels }

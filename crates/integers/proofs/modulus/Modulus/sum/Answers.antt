@@ -2,4 +2,4 @@ use Rattle.integers.proofs.Residues.{sum-of-remainders}
 use Rattle.integers.proofs.modulus.Modulus.sum.Needs as need
 
 pub returns : need.returns
-returns c = sum-of-remainders (c .args .a) (c .args .b) (c .args .self .n)
+returns c = search sum-of-remainders
