@@ -175,3 +175,11 @@ module _ {Number : Type 0} (s : Meaning Number) (sound : Sound s) (v : View) whe
         re = stands-same (read s v (p .1)) (a .im) (r .0) (read-agrees (a .im) (p .1) (f .im)) (h .re);
         im = stands-same (negℤ (read s v (p .0))) (negℤ (a .re)) (r .1) (same-opposite (read s v (p .0)) (a .re) (s .modulus) some (read-agrees (a .re) (p .0) (f .re))) (h .im);
       }
+
+  -- ---- what a call owes, as what its answer stands for
+
+  pub sum-reads : (x y r : Number) → s .wf x ≡ true → s .wf y ≡ true → Sum s x y r → Stands s v (read s v x +ℤ read s v y) r
+  sum-reads x y r p q h = sum-stands (read s v x) (read s v y) x y r (stands-itself x p) (stands-itself y q) h
+
+  pub opposite-reads : (x r : Number) → s .wf x ≡ true → Opposite s x r → Stands s v (negℤ (read s v x)) r
+  opposite-reads x r p h = opposite-stands (read s v x) x r (stands-itself x p) h

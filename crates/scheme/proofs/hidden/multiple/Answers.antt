@@ -1,6 +1,4 @@
 use mathlib.Core.Path.{_≡_, _∙_}
-use mathlib.Core.Bool.{true}
-use mathlib.Core.List.{[]}
 use native.Mathlib.Omega.{arith}
 use borrow.Author.Differences.{ints}
 use lib.IntN.{pos, negℤ}
@@ -14,12 +12,13 @@ returns-then-c-lt0 g c =
     let k = g .S·Scheme·met .sound (c .args .s .now) in
     let f : g .S·Scheme .meaning (c .repeated-r .last .s) ≡ s = c .repeated-r .ensures .frame in
     let e : c .args .c ≡ negℤ (pos (c .unsigned-abs .result)) = omega (arith, ints) in
-    let h : s .wf (c .repeated-r .result) ≡ true → Opposite s (c .repeated-r .result) (c .opposite .result) = rw f at (c .opposite .ensures .value) in
+    let less = rw f at (c .opposite .ensures .value) in
     record {
       value =
           λ w v.
           let p = c .repeated-r .ensures .value w v in
-          turned-stands s k v (c .args .c) (c .unsigned-abs .result) (c .args .x) (c .repeated-r .result) (c .opposite .result) e p (h (p .wf));
+          let o : Opposite s (c .repeated-r .result) (c .opposite .result) = search less in
+          turned-stands s k v (c .args .c) (c .unsigned-abs .result) (c .args .x) (c .repeated-r .result) (c .opposite .result) e p o;
       frame = c .opposite .ensures .frame ∙ f;
     }
 

@@ -1,11 +1,11 @@
 use borrow.Author.Needs.{needs}
 use mathlib.Core.Path.{_≡_, _∙_}
 use mathlib.Core.Bool.{true}
-use lib.IntN.{_-ℤ_, _*ℤ_}
+use lib.IntN.{_*ℤ_}
 use mir.Syntax.{w64}
 use mir.Val.{SFits}
 use Rattle.std.proofs.shelf.Signed.{toZ-ofZ}
-use Rattle.scheme.specs.Meaning.{View, Sum}
+use Rattle.scheme.specs.Meaning.{View}
 use Rattle.scheme.specs.Hidden.{Stands, read}
 use Rattle.scheme.proofs.Standing.{carry-difference, sum-stands}
 use Rattle.scheme.proofs.pairs.product.Needs as need
@@ -29,22 +29,19 @@ returns g c =
     let f3 : g .S·Scheme .meaning (c .difference-re .last .s) ≡ s = c .difference-re .ensures .frame ∙ f2 in
     let f4 : g .S·Scheme .meaning (c .multiple-re-im .last .s) ≡ s = c .multiple-re-im .ensures .frame ∙ f3 in
     let f5 : g .S·Scheme .meaning (c .multiple-im-re .last .s) ≡ s = c .multiple-im-re .ensures .frame ∙ f4 in
-    let h1 : s .wf (a .0) ≡ true → (v : View) → Stands s v (w .re *ℤ read s v (a .0)) p = simp e at (c .multiple-re-re .ensures .value) in
-    let h2 : s .wf (a .1) ≡ true → (v : View) → Stands s v (w .im *ℤ read s v (a .1)) q = simp (d, f1) at (c .multiple-im-im .ensures .value) in
-    let h3 : s .wf p ≡ true → s .wf q ≡ true → (v : View) → Stands s v (read s v p -ℤ read s v q) (c .difference-re .result) = simp f2 at (c .difference-re .ensures .value) in
-    let h4 : s .wf (a .1) ≡ true → (v : View) → Stands s v (w .re *ℤ read s v (a .1)) x = simp (e, f3) at (c .multiple-re-im .ensures .value) in
-    let h5 : s .wf (a .0) ≡ true → (v : View) → Stands s v (w .im *ℤ read s v (a .0)) y = simp (d, f4) at (c .multiple-im-re .ensures .value) in
-    let h6 : s .wf x ≡ true → s .wf y ≡ true → Sum s x y (c .sum-im .result) = simp f5 at (c .sum-im .ensures .value) in
+    let h1 = simp e at (c .multiple-re-re .ensures .value) in
+    let h2 = simp (d, f1) at (c .multiple-im-im .ensures .value) in
+    let h3 = simp f2 at (c .difference-re .ensures .value) in
+    let h4 = simp (e, f3) at (c .multiple-re-im .ensures .value) in
+    let h5 = simp (d, f4) at (c .multiple-im-re .ensures .value) in
+    let h6 = simp f5 at (c .sum-im .ensures .value) in
     record {
       value =
           λ t v.
-          let t1 = h1 (t .re) v in
-          let t2 = h2 (t .im) v in
-          let t4 = h4 (t .im) v in
-          let t5 = h5 (t .re) v in
-          record {
-            re = carry-difference s k v (w .re *ℤ read s v (a .0)) (w .im *ℤ read s v (a .1)) p q (c .difference-re .result) t1 t2 (h3 (t1 .wf) (t2 .wf) v);
-            im = sum-stands s k v (w .re *ℤ read s v (a .1)) (w .im *ℤ read s v (a .0)) x y (c .sum-im .result) t4 t5 (h6 (t4 .wf) (t5 .wf));
-          };
+          let t1 : Stands s v (w .re *ℤ read s v (a .0)) p = search h1 in
+          let t2 : Stands s v (w .im *ℤ read s v (a .1)) q = search h2 in
+          let t4 : Stands s v (w .re *ℤ read s v (a .1)) x = search h4 in
+          let t5 : Stands s v (w .im *ℤ read s v (a .0)) y = search h5 in
+          record { re = search (carry-difference s k v, h3); im = search (sum-stands s k v, h6) };
       frame = c .sum-im .ensures .frame ∙ f5;
     }

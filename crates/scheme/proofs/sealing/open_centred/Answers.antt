@@ -1,3 +1,4 @@
+use borrow.Author.Needs.{needs}
 use mathlib.Core.Path.{_≡_, _∙_, ap, ap₂}
 use mathlib.Core.Bool.{true}
 use Prim.Native.Nat.{_%_, _<_}
@@ -20,8 +21,9 @@ returns g c =
           λ w.
           let o : c .open .result ≡ hides s (c .args .x) = (rw f at (c .open .ensures .value)) w in
           let b : hides s (c .args .x) < s .modulus = g .S·Scheme·met .sound (c .args .s .now) .below _ (c .args .x) w in
+          let e : c .centred .result ≡ centred (c .open .result % c .modulus-of-modulus .result .n) (c .modulus-of-modulus .result .n) = search needs in
           toZ-ofZ w64 (c .centred .result) fits
-          ∙ c .centred .ensures
+          ∙ e
           ∙ ap₂ (λ x m. centred (x % m) m) o n
           ∙ ap (λ x. centred x (s .modulus)) (mod-eq-of-lt b);
       frame = c .open .ensures .frame ∙ f;

@@ -1,3 +1,4 @@
+use borrow.Author.Needs.{needs}
 use mathlib.Core.Path.{_≡_, _∙_, ap}
 use mathlib.Core.Bool.{true}
 use mir.Syntax.{w64}
@@ -18,16 +19,9 @@ returns g c =
     let f : g .S·Scheme .meaning (c .seal .last .self) ≡ s = c .in-Continue-x .ensures tt .frame in
     let m : Sealed s (c .args .m) (c .args .word) x = rw (toZ-ofZ w64 (c .args .m) (c .fits .m)) at (c .in-Continue-x .ensures tt .value) in
     let o : s .wf x ≡ true → c .open-centred .result ≡ means s x = rw f at (c .open-centred .ensures .value) in
+    let e : c .open-centred .result ≡ c .args .m =
+    o (m .wf) ∙ ap (λ r. centred r (s .modulus)) (m .hidden) ∙ centred-only (c .args .m) (s .modulus) (k .odd) (m .within) in
     record {
-      value =
-          record {
-            within = m .within;
-            taken = m .taken;
-            same =
-                toZ-ofZ w64 (c .open-centred .result) fits
-                ∙ o (m .wf)
-                ∙ ap (λ r. centred r (s .modulus)) (m .hidden)
-                ∙ centred-only (c .args .m) (s .modulus) (k .odd) (m .within);
-          };
+      value = record { within = m .within; taken = m .taken; same = search needs };
       frame = c .open-centred .ensures .frame ∙ f;
     }

@@ -21,7 +21,8 @@ unreachable-requires g c κs =
     let r = c .args .r % s .modulus in
     let e : toZ w64 (ofZ w64 (c .centred .result)) ≡ centred r (s .modulus) =
     toZ-ofZ w64 (c .centred .result) fits ∙ c .centred .ensures ∙ ap (λ n. centred (c .args .r % n) n) (c .modulus-of-modulus .ensures .value) in
-    let h : Refuses (TooLarge s (centred r (s .modulus))) (NotTaken s (centred r (s .modulus)) 1) (c .in-Err .field-0) = rw (f, e) at (c .in-Err .ensures tt .value) in
+    let h0 = rw (f, e) at (c .in-Err .ensures tt .value) in
+    let h : Refuses (TooLarge s (centred r (s .modulus))) (NotTaken s (centred r (s .modulus)) 1) (c .in-Err .field-0) = search h0 in
     residue-sealed s k r (c .in-Err .field-0) (mod-lt (c .args .r) z) h
 
 pub returns : need.returns
@@ -34,7 +35,8 @@ returns g c =
     let r = c .args .r % s .modulus in
     let e : toZ w64 (ofZ w64 (c .centred .result)) ≡ centred r (s .modulus) =
     toZ-ofZ w64 (c .centred .result) fits ∙ c .centred .ensures ∙ ap (λ n. centred (c .args .r % n) n) (c .modulus-of-modulus .ensures .value) in
-    let h : Sealed s (centred r (s .modulus)) 1 (c .in-Ok .x) = rw (f, e) at (c .in-Ok .ensures tt .value) in
+    let h0 = rw (f, e) at (c .in-Ok .ensures tt .value) in
+    let h : Sealed s (centred r (s .modulus)) 1 (c .in-Ok .x) = search h0 in
     record {
       value =
           record { wf = h .wf; reads = h .hidden ∙ centred-back r (s .modulus) (mod-lt (c .args .r) z) ∙ sym (residue-pos (c .args .r) (s .modulus)) };

@@ -1,6 +1,4 @@
 use mathlib.Core.Path.{_≡_, _∙_, ap}
-use mathlib.Core.Bool.{true}
-use Rattle.scheme.specs.Meaning.{Sum}
 use Rattle.split.specs.Shares.{split, SumHalves}
 use Rattle.split.proofs.Laws.{sum-splits}
 use Rattle.split.proofs.SplitScheme.sum.Needs as need
@@ -11,8 +9,9 @@ returns g c =
     let a = c .args .a in
     let b = c .args .b in
     let f : g .S·Scheme .meaning (c .sum-first .last .self) ≡ s = c .sum-first .ensures .frame in
-    let h : s .wf (a .second) ≡ true → s .wf (b .second) ≡ true → Sum s (a .second) (b .second) (c .sum-second .result) = simp f at (c .sum-second .ensures .value) in
-    let k : SumHalves s a b (record { first = c .sum-first .result; second = c .sum-second .result }) = record { first = c .sum-first .ensures .value; second = h } in
+    let first = c .sum-first .ensures .value in
+    let second = simp f at (c .sum-second .ensures .value) in
+    let k : SumHalves s a b (record { first = c .sum-first .result; second = c .sum-second .result }) = record { first = search first; second = search second } in
     record {
       value = λ p q. sum-splits s a b _ k p q;
       halves = k;

@@ -8,4 +8,6 @@ use Rattle.split.proofs.figure.sealed_figure.Needs as need
 pub returns : need.returns
 returns c =
     let n : c .new-s .result .below .modulus .n ≡ 81 = ap (λ p. p .modulus .n) (c .new-s .ensures) ∙ c .in-Ok .ensures tt .1 in
-    figure-stands (c .seal .result) (rw n at (c .seal .ensures .value)) (rw n at (c .seal .ensures .halves))
+    let value = rw n at (c .seal .ensures .value) in
+    let halves = rw n at (c .seal .ensures .halves) in
+    search (figure-stands, value, halves)
