@@ -4,3 +4,4 @@ pub mod Butterflies
 pub mod Sizes
 pub mod Stages
 pub mod Rules
+pub mod Bounds

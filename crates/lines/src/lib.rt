@@ -1,5 +1,6 @@
 // Lines: the transforms over whole numbers, and theorems about them, each on the contract of a function.
 ghost use Rattle.lines.specs.Examples.{LineFigures};
+ghost use Rattle.lines.specs.Laws.{LinesBounded, LinesMeant};
 ghost use Rattle.lines.specs.Places.{StagesCompose};
 ghost use Rattle.lines.specs.Rules.{OneTransform};
 
@@ -20,6 +21,20 @@ pub fn stages_compose<E>() -> u8
 // The rules of direct, radix-2 and radix-4 lines have one solution at every lawful size.
 pub fn lines_are_determined() -> u8
     ensures { λ _. ⌜ OneTransform ⌝ }
+{
+    0
+}
+
+// Each component of a line is at most the bound in size, where the samples lie within the sample scale.
+pub fn lines_are_bounded() -> u8
+    ensures { λ _. ⌜ LinesBounded ⌝ }
+{
+    0
+}
+
+// Modulo an odd number that the plan fits, the meaning of a line's residue is the line.
+pub fn lines_are_meant() -> u8
+    ensures { λ _. ⌜ LinesMeant ⌝ }
 {
     0
 }
