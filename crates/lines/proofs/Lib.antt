@@ -5,3 +5,7 @@ pub mod Sizes
 pub mod Stages
 pub mod Rules
 pub mod Bounds
+pub mod Sums
+pub mod Nears
+pub mod Fine
+pub mod Distances

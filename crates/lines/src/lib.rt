@@ -1,6 +1,6 @@
 // Lines: the transforms over whole numbers, and theorems about them, each on the contract of a function.
 ghost use Rattle.lines.specs.Examples.{LineFigures};
-ghost use Rattle.lines.specs.Laws.{LinesBounded, LinesMeant};
+ghost use Rattle.lines.specs.Laws.{LinesBounded, LinesMeant, LinesNear};
 ghost use Rattle.lines.specs.Places.{StagesCompose};
 ghost use Rattle.lines.specs.Rules.{OneTransform};
 
@@ -35,6 +35,13 @@ pub fn lines_are_bounded() -> u8
 // Modulo an odd number that the plan fits, the meaning of a line's residue is the line.
 pub fn lines_are_meant() -> u8
     ensures { λ _. ⌜ LinesMeant ⌝ }
+{
+    0
+}
+
+// Each component of 2^30 times a line less the scale times the fine transform is at most 2^30 times the distance in size.
+pub fn lines_are_near() -> u8
+    ensures { λ _. ⌜ LinesNear ⌝ }
 {
     0
 }
