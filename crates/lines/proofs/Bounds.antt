@@ -1,17 +1,16 @@
 -- The bound: each component of a line is at most the bound in size; so the meaning of its residue is the line itself.
-use mathlib.Core.Path.{_≡_, refl, sym, _∙_, ap, ap₂, subst}
-use mathlib.Core.Bool.{Bool, true, false}
-use Prim.Native.Nat.{ℕ, zero, suc, _+_, _-_, _*_, _/_, _%_, _^_, _<_, _≤_}
-use native.Mathlib.Nat.{mul-le-mul, mul-le-mul-left, add-mul, mul-add, mul-comm, mul-assoc, zero-mul, suc-mul, one-mul, le-trans, mul-le-mul-right, pow-suc, pow-succ', pow-zero, one-le-pow, mod-lt, div-lt-iff-lt-mul, div-add-mod'}
-use native.Mathlib.Decide.{decLe}
+use mathlib.Core.Path.{_≡_, refl, sym, _∙_, ap, subst}
+use mathlib.Core.Bool.{true}
+use Prim.Native.Nat.{ℕ, zero, suc, _+_, _*_, _/_, _%_, _^_, _<_, _≤_}
+use native.Mathlib.Nat.{mul-le-mul-left, add-mul, mul-comm, mul-assoc, suc-mul, one-mul, le-trans, mul-le-mul-right, pow-suc, pow-zero, one-le-pow, mod-lt}
 use native.Mathlib.Omega.{arith}
 use borrow.Author.Differences.{ints}
 use lib.Arith.{digits-lt}
 use lib.Dec.{lit<, lit≤}
-use lib.IntN.{ℤ, pos, natAbs, _+ℤ_, _-ℤ_, _*ℤ_}
+use lib.IntN.{ℤ, pos, natAbs, _*ℤ_}
 use Rattle.integers.specs.declared.Complex.{Complex}
-use Rattle.integers.specs.Complex.{complex, _⊕_, _⊗_, real, quarterTurn}
-use Rattle.integers.specs.Residue.{residue, centred, half}
+use Rattle.integers.specs.Complex.{_⊕_, _⊗_, real}
+use Rattle.integers.specs.Residue.{half}
 use Rattle.integers.proofs.Ring.{abs-times, abs-sum, abs-difference}
 use Rattle.integers.proofs.ComplexRing.{complex-same}
 use Rattle.integers.proofs.Residues.{centred-only}
@@ -22,14 +21,12 @@ use Rattle.circle.proofs.Turns.{sizes-turned}
 use Rattle.circle.proofs.Twiddles.{twiddle-sizes}
 use Rattle.plan.specs.declared.method.Method.{Method}
 use Rattle.plan.specs.declared.method.Method.the-variants.{Direct, Radix2, Radix4}
-use Rattle.plan.specs.Methods.{sizes, sized, base}
-use Rattle.plan.specs.Meaning.{figures, figuresOf, leastModulus, radix, exact, stage, growth}
+use Rattle.plan.specs.Methods.{sizes, sized}
+use Rattle.plan.specs.Meaning.{figuresOf, radix}
 use Rattle.plan.proofs.Powers.{carried}
-use Rattle.plan.proofs.Rules.{radix-step, small}
-use Rattle.lines.specs.Lines.{sumBelow, part, weight, butterfly, mix, radixLine, directLine, divisions, stagesOf, lineOf}
+use Rattle.lines.specs.Lines.{sumBelow, part, weight, butterfly, mix, radixLine, directLine, divisions, lineOf}
 use Rattle.lines.specs.Laws.{Within, Samples, LinesBounded, LinesMeant, meant}
 use Rattle.lines.proofs.Butterflies.{weight-first, weight-next, weight-first-small, weight-small}
-use Rattle.lines.proofs.Places.{line-step}
 
 -- what lies within b
 

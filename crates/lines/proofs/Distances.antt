@@ -1,15 +1,14 @@
 -- The distance: how far a line lies from its scale's part of the fine transform.
 use mathlib.Core.Path.{_≡_, refl, sym, _∙_, ap, ap₂, subst, subst₂}
-use mathlib.Core.Bool.{Bool, true, false}
+use mathlib.Core.Bool.{true}
 use Prim.Native.Nat.{ℕ, zero, suc, _+_, _*_, _/_, _%_, _^_, _<_, _≤_}
-use native.Mathlib.Nat.{add-zero, zero-mul, pow-zero, add-comm, mul-comm, mul-assoc, mul-left-comm, mul-mul-mul-comm, add-mul, mul-add, mul-le-mul, mul-le-mul-right, mul-le-mul-left, one-le-pow, mod-lt, div-add-mod', div-lt-iff-lt-mul, pow-succ', le-trans}
+use native.Mathlib.Nat.{add-zero, zero-mul, pow-zero, add-comm, mul-comm, mul-assoc, mul-left-comm, add-mul, mul-add, mul-le-mul-right, mul-le-mul-left, one-le-pow, mod-lt, div-add-mod', div-lt-iff-lt-mul, pow-succ'}
 use native.Mathlib.Omega.{arith}
-use borrow.Author.Differences.{ints}
 use lib.Dec.{lit<, lit≤}
 use lib.IntN.{ℤ, pos, natAbs, _*ℤ_, +ℤ-idl}
 use Rattle.integers.specs.declared.Complex.{Complex}
-use Rattle.integers.specs.Complex.{complex, _⊕_, _⊖_, _⊗_, _⊙_, real}
-use Rattle.integers.proofs.Ring.{one-left, times-assoc, abs-times}
+use Rattle.integers.specs.Complex.{complex, _⊕_, _⊗_, _⊙_, real}
+use Rattle.integers.proofs.Ring.{one-left, times-assoc}
 use Rattle.integers.proofs.ComplexRing.{complex-same, ⊗-comm, ⊗-assoc, ⊙-⊗, real-⊗, one-⊗}
 use Rattle.circle.specs.Near.{Near, multiple, turned, sizes as together}
 use Rattle.circle.specs.Spread.{spread}
@@ -17,12 +16,12 @@ use Rattle.circle.specs.Circle.{circle, point}
 use Rattle.circle.specs.Fine.{fine}
 use Rattle.circle.specs.Twiddle.{twiddle}
 use Rattle.circle.proofs.Fine.{fine-turned, fine-sizes, fine-product}
-use Rattle.circle.proofs.Turns.{turned-mul, mul-turned, multiple-turned, near-turned}
+use Rattle.circle.proofs.Turns.{turned-mul, multiple-turned, near-turned}
 use Rattle.circle.proofs.Twiddles.{twiddle-sizes, twiddle-near, abs-multiple}
 use Rattle.plan.specs.declared.method.Method.{Method}
 use Rattle.plan.specs.declared.method.Method.the-variants.{Direct, Radix2, Radix4}
 use Rattle.plan.specs.Methods.{sizes, sized}
-use Rattle.plan.specs.Meaning.{figures, figuresOf, radix}
+use Rattle.plan.specs.Meaning.{figuresOf, radix}
 use Rattle.plan.proofs.Powers.{carried}
 use Rattle.lines.specs.Lines.{sumBelow, part, weight, butterfly, mix, radixLine, directLine, divisions, lineOf, fineLine}
 use Rattle.lines.specs.Laws.{Within, Samples, LinesNear}
@@ -30,7 +29,7 @@ use Rattle.lines.proofs.Butterflies.{sum-same, weight-first, weight-next, weig
 use Rattle.lines.proofs.Places.{line-step}
 use Rattle.lines.proofs.Sums.{sum-product, sum-multiple, sum-turned}
 use Rattle.lines.proofs.Bounds.{within-sums, within-product, part-samples}
-use Rattle.lines.proofs.Nears.{near-same, near-more, near-via, near-sum, near-sums, near-first, near-product, near-factor, near-multiple, near-cancel}
+use Rattle.lines.proofs.Nears.{near-same, near-more, near-via, near-sums, near-first, near-product, near-factor, near-multiple, near-cancel}
 use Rattle.lines.proofs.Fine.{finePart, fine-step}
 
 -- multiples and products

@@ -1,10 +1,10 @@
 -- The fine transform of size r·m, from its parts of size m.
-use mathlib.Core.Path.{_≡_, refl, sym, _∙_, ap, ap₂, subst}
-use Prim.Native.Nat.{ℕ, zero, suc, _+_, _*_, _/_, _%_, _^_, _<_, _≤_}
+use mathlib.Core.Path.{_≡_, sym, _∙_, ap, ap₂}
+use Prim.Native.Nat.{ℕ, suc, _+_, _*_, _/_, _%_, _^_}
 use native.Mathlib.Nat.{mul-comm, mul-assoc, mul-left-comm, mul-mul-mul-comm, add-mul, mul-add, pow-suc}
 use native.Mathlib.Omega.{arith}
 use Rattle.integers.specs.declared.Complex.{Complex}
-use Rattle.integers.specs.Complex.{_⊕_, _⊗_}
+use Rattle.integers.specs.Complex.{_⊗_}
 use Rattle.circle.specs.Near.{turned}
 use Rattle.circle.specs.Fine.{fine}
 use Rattle.circle.proofs.Fine.{fine-turned}

@@ -9,3 +9,4 @@ pub mod Sums
 pub mod Nears
 pub mod Fine
 pub mod Distances
+pub mod Digits

@@ -1,5 +1,5 @@
 -- Numbers that lie near one another: sums, products and multiples of them.
-use mathlib.Core.Path.{_≡_, refl, sym, _∙_, ap, ap₂, subst}
+use mathlib.Core.Path.{_≡_, refl, sym, _∙_, ap, subst}
 use Prim.Native.Nat.{ℕ, zero, suc, _+_, _*_, _<_, _≤_}
 use native.Mathlib.Nat.{suc-mul, le-trans, le-of-mul-le-mul-left, mul-le-mul-left}
 use native.Mathlib.Omega.{arith}
@@ -7,9 +7,9 @@ use borrow.Author.Differences.{ints}
 use lib.IntN.{ℤ, pos, natAbs, _+ℤ_, _-ℤ_, _*ℤ_}
 use Rattle.integers.specs.declared.Complex.{Complex}
 use Rattle.integers.specs.Complex.{complex, _⊕_, _⊖_, _⊗_}
-use Rattle.integers.proofs.Ring.{abs-times, abs-sum, abs-difference, distrib-difference, ring}
+use Rattle.integers.proofs.Ring.{abs-times, distrib-difference, ring}
 use Rattle.integers.proofs.ComplexRing.{complex-same, ⊗-⊖}
-use Rattle.circle.specs.Near.{Near, multiple, turned, sizes}
+use Rattle.circle.specs.Near.{Near, multiple, sizes}
 use Rattle.lines.specs.Lines.{sumBelow}
 use Rattle.lines.specs.Laws.{Within}
 use Rattle.lines.proofs.Bounds.{within-product}

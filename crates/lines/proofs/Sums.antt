@@ -1,10 +1,10 @@
 -- Sums of complex whole numbers: what passes through them, and how they split by remainders.
-use mathlib.Core.Path.{_≡_, refl, sym, _∙_, ap, ap₂, subst}
-use Prim.Native.Nat.{ℕ, zero, suc, _+_, _*_, _<_}
+use mathlib.Core.Path.{_≡_, refl, sym, _∙_, ap, ap₂}
+use Prim.Native.Nat.{ℕ, zero, suc, _+_, _*_}
 use native.Mathlib.Nat.{zero-mul, suc-mul, add-suc, add-zero, mul-comm}
 use native.Mathlib.Omega.{arith}
 use borrow.Author.Differences.{ints}
-use lib.IntN.{ℤ, pos, *ℤ-zero, _+ℤ_, +ℤ-idl, +ℤ-idr}
+use lib.IntN.{ℤ, pos, *ℤ-zero, _+ℤ_, +ℤ-idr}
 use Rattle.integers.specs.declared.Complex.{Complex}
 use Rattle.integers.specs.Complex.{complex, _⊕_, _⊗_, _⊙_, quarterTurn}
 use Rattle.integers.proofs.ComplexRing.{complex-same, ⊗-⊕, ⊙-⊕, ⊕-assoc, turn-⊕}

@@ -1,12 +1,19 @@
 // Lines: the transforms over whole numbers, and theorems about them, each on the contract of a function.
 ghost use Rattle.lines.specs.Examples.{LineFigures};
 ghost use Rattle.lines.specs.Laws.{LinesBounded, LinesMeant, LinesNear};
-ghost use Rattle.lines.specs.Places.{StagesCompose};
+ghost use Rattle.lines.specs.Places.{PlacesStand, StagesCompose};
 ghost use Rattle.lines.specs.Rules.{OneTransform};
 
 // The worked figures of lines, plans and the circle, in one statement.
 pub fn line_figures_stand() -> u8
     ensures { λ _. ⌜ LineFigures ⌝ }
+{
+    0
+}
+
+// The place of a sample has its digits reversed, lies below the size, and leads back; the size is the radix to the number of stages.
+pub fn places_stand() -> u8
+    ensures { λ _. ⌜ PlacesStand ⌝ }
 {
     0
 }
