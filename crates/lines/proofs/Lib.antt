@@ -1,0 +1,13 @@
+pub mod Worked
+pub mod Places
+pub mod Butterflies
+pub mod Sizes
+pub mod Stages
+pub mod Rules
+pub mod Bounds
+pub mod Sums
+pub mod Nears
+pub mod Fine
+pub mod Distances
+pub mod Digits
+pub mod Runs
