@@ -1,0 +1,6 @@
+// Transforms on lent blocks of hidden pairs, under every scheme: the place of a sample, the search for a malformed pair, one stage,
+// one direct line.
+mod block;
+mod search;
+
+pub use search::first_malformed;
