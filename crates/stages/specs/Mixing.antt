@@ -1,15 +1,17 @@
--- One butterfly on hidden pairs.
+-- The pairs that go into a butterfly and come out of it.
 use Prim.Native.Nat.{ℕ}
 use Rattle.integers.specs.declared.Complex.{Complex}
-use Rattle.integers.specs.Complex.{_⊕_, _⊖_, _⊗_, quarterTurn}
 use Rattle.scheme.specs.Meaning.{Meaning, View}
 use Rattle.scheme.specs.Hidden.{StandsPair}
-use Rattle.lines.specs.Lines.{weight, butterfly}
 
-abbrev pub Pair : Type 0 → Type 0
-Pair Number = Number × Number
+-- in the view v, the two pairs stand for x(0) and x(1)
+pub record Two {Number : Type 0} (m : Meaning Number) (v : View) (x : ℕ → Complex) (p : (Number × Number) × (Number × Number)) : Type 0 where
+  pub first : StandsPair m v (x 0) (p .0)
+  pub second : StandsPair m v (x 1) (p .1)
 
--- in the view v: whatever a and b stand for, x and y stand for their sum and difference
-pub record Crossed2 {Number : Type 0} (m : Meaning Number) (v : View) (a b : Pair Number) (out : Pair Number × Pair Number) : Type 0 where
-  pub sum : (p q : Complex) → StandsPair m v p a → StandsPair m v q b → StandsPair m v (p ⊕ q) (out .0)
-  pub difference : (p q : Complex) → StandsPair m v p a → StandsPair m v q b → StandsPair m v (p ⊖ q) (out .1)
+-- in the view v, the four pairs stand for x(0) to x(3)
+pub record Four {Number : Type 0} (m : Meaning Number) (v : View) (x : ℕ → Complex) (p : (Number × Number) × (Number × Number) × (Number × Number) × (Number × Number)) : Type 0 where
+  pub first : StandsPair m v (x 0) (p .0)
+  pub second : StandsPair m v (x 1) (p .1)
+  pub third : StandsPair m v (x 2) (p .2)
+  pub fourth : StandsPair m v (x 3) (p .3)
