@@ -4,6 +4,7 @@ Every number here is a Python integer; nothing is shared with the crates.
 """
 
 from fractions import Fraction
+from functools import cache
 from math import gcd, isqrt
 
 
@@ -49,6 +50,7 @@ def away(x):
     return half_up(x) if x >= 0 else -half_up(-x)
 
 
+@cache
 def twiddle(scale, u):
     """C(u) at a twiddle scale."""
     return tuple(away(Fraction(scale * part, 2**30)) for part in fine(u))
@@ -111,3 +113,56 @@ def seal_refusal(m, word_taken, n, limit=None):
     if abs(m) > (n - 1) // 2 or (limit is not None and abs(m) > limit):
         return "11 large"
     return None if word_taken else "12 mask"
+
+
+def times(a, b):
+    """The product of two complex whole numbers."""
+    return a[0] * b[0] - a[1] * b[1], a[0] * b[1] + a[1] * b[0]
+
+
+def plus(*numbers):
+    return sum(x[0] for x in numbers), sum(x[1] for x in numbers)
+
+
+def turn(x, quarters):
+    """x times (-j)^quarters."""
+    for _ in range(quarters % 4):
+        x = x[1], -x[0]
+    return x
+
+
+def lines(method, scale, samples):
+    """All lines of the samples, by the rules of the method."""
+    size = len(samples)
+    if method == "d":
+        return [
+            plus(*(times(twiddle(scale, n * k * 256 // size), samples[n]) for n in range(size)))
+            for k in range(size)
+        ]
+    if size == 1:
+        return list(samples)
+    radix = int(method)
+    parts = [lines(method, scale, samples[i::radix]) for i in range(radix)]
+    out = [None] * size
+    for k in range(size // radix):
+        weighted = []
+        for i in range(radix):
+            if size <= 4:
+                weighted.append(turn(parts[i][k], i * k * 4 // size))
+            elif i == 0:
+                weighted.append((scale * parts[i][k][0], scale * parts[i][k][1]))
+            else:
+                weighted.append(times(twiddle(scale, i * k * 256 // size), parts[i][k]))
+        for out_part in range(radix):
+            turned = [turn(weighted[i], i * out_part * (4 // radix)) for i in range(radix)]
+            out[k + out_part * (size // radix)] = plus(*turned)
+    return out
+
+
+def fine_lines(samples):
+    """The fine transform."""
+    size = len(samples)
+    return [
+        plus(*(times(fine(n * k * 256 // size), samples[n]) for n in range(size)))
+        for k in range(size)
+    ]

@@ -1,15 +1,19 @@
 """Writes what a program of crates/ must print: python3 trials/expected.py NAME > crates/NAME/stdout"""
 
 import sys
+from fractions import Fraction
+from math import cos, pi, sin
 
 from definitions import (
     C_TABLE,
     METHODS,
     S_TABLE,
+    away,
     figures,
     fine,
     is_modulus,
     is_system,
+    lines,
     meaning,
     plan_refusal,
     seal_refusal,
@@ -38,6 +42,35 @@ def sweep():
                     else:
                         answer = refusal
                     print(f"{METHODS[method]} {size} {sample} {scale}: {answer}")
+
+
+def decimal(x):
+    """A fraction to two decimals, halves away from zero."""
+    hundredths = away(x * 100)
+    sign = "-" if hundredths < 0 else ""
+    return f"{sign}{abs(hundredths) // 100}.{abs(hundredths) % 100:02}"
+
+
+def cycle():
+    print("\nOne cycle of a feeder current\n")
+    angle = 2 * pi / 16
+    current = [round(80 * sin(n * angle) + 15 * sin(5 * n * angle)) for n in range(16)]
+    samples = [(x, 0) for x in current]
+    d, _, e = figures("4", 16, 100, 1000)
+    print(f"radix 4, size 16, split modulo {2**31 - 1}: scale {d}, distance {e}")
+    opened = lines("4", 1000, samples)
+    for k in range(1, 8):
+        print(f"line {k}: {opened[k][0]}, {opened[k][1]}")
+        re, im = (decimal(Fraction(part, d)) for part in opened[k])
+        print(f"  divided by the scale {re}, {im}")
+        re, im = (
+            decimal(Fraction(round(part * 10**6), 10**6))
+            for part in (
+                sum(x * cos(n * k * angle) for n, x in enumerate(current)),
+                -sum(x * sin(n * k * angle) for n, x in enumerate(current)),
+            )
+        )
+        print(f"  exact {re}, {im}")
 
 
 def cards():
@@ -83,6 +116,7 @@ def cards():
     print(f"residue system 79, 83, 89, modulus {whole}: -57 sealed")
     print(f"  the residues are {residues[0]}, {residues[1]}, {residues[2]}")
     print(f"  the reader opens {meaning(opened, whole)}")
+    cycle()
 
 
 U64, I64_MAX, I64_MIN = 2**64 - 1, 2**63 - 1, -(2**63)
@@ -150,4 +184,35 @@ def schemes():
         scheme_table("split rerandomised", n, lambda w: w < n)
 
 
-{"schemes_sweep": schemes, "sweep": sweep, "harmonics": cards}[sys.argv[1]]()
+def component(kind, scale, n, which):
+    """The samples of transforms_sweep: its generator, in 64-bit arithmetic."""
+    x = (n * 6364136223846793005 + which) * 1442695040888963407 % 2**64
+    drawn = (x ^ (x >> 29)) * 3202034522624059733 % 2**64 >> 33
+    if kind == "ends":
+        return scale if drawn % 2 == 0 else -scale
+    return drawn % 65535 % (scale + 1) - drawn // 65535 % 65535 % (scale + 1)
+
+
+def transforms():
+    for name, most, kind in [
+        ("plain", 256, "spread"),
+        ("plain", 256, "ends"),
+        ("split", 16, "spread"),
+        ("split twice", 16, "ends"),
+        ("system", 16, "spread"),
+        ("split system", 16, "ends"),
+        ("rerandomised", 16, "spread"),
+    ]:
+        for method in METHODS:
+            for size in [1, 2, 4, 8, 16, 32, 64, 128, 256]:
+                if size > most or plan_refusal(method, size, 1000, 100) is not None:
+                    continue
+                samples = [
+                    (component(kind, 1000, n, 1), component(kind, 1000, n, 2)) for n in range(size)
+                ]
+                print(name, METHODS[method], size)
+                for k, line in enumerate(lines(method, 100, samples)):
+                    print(k, *line)
+
+
+{"transforms_sweep": transforms, "schemes_sweep": schemes, "sweep": sweep, "harmonics": cards}[sys.argv[1]]()
