@@ -20,6 +20,15 @@ placeOf Direct m n = n
 placeOf Radix2 m n = reversed 2 (stagesOf Radix2 m) n
 placeOf Radix4 m n = reversed 4 (stagesOf Radix4 m) n
 
+-- What places and stages are, in terms of digits: the size is the radix to the number of stages; the place of a sample lies below the size,
+-- has the same digits in the opposite order, and the place of a place is the sample again.
+pub record PlacesStand : Type 0 where
+  pub stages2 : (m : ℕ) → sized Radix2 m ≡ true → 2 ^ stagesOf Radix2 m ≡ m
+  pub stages4 : (m : ℕ) → sized Radix4 m ≡ true → 4 ^ stagesOf Radix4 m ≡ m
+  pub digits : (r u g j : ℕ) → 1 ≤ r → j < u → reversed r u g / r ^ j % r ≡ g / r ^ (u - suc j) % r
+  pub below : (k : Method) (m n : ℕ) → sized k m ≡ true → n < m → placeOf k m n < m
+  pub back : (k : Method) (m n : ℕ) → sized k m ≡ true → n < m → placeOf k m (placeOf k m n) ≡ n
+
 -- the samples whose last u digits are those of g reversed
 abbrev pub share : ℕ → ℕ → ℕ → (ℕ → Complex) → ℕ → Complex
 share r u g s n = s (n * r ^ u + reversed r u g)
@@ -54,6 +63,10 @@ Staged Stands q r t u before after = (g k : ℕ) → g < r ^ u → k < r ^ t →
 pub record Run {E : Type 0} (Stands : Complex → E → Type 0) (q r n : ℕ) (s : ℕ → Complex) (blocks : ℕ → ℕ → E) : Type 0 where
   pub loaded : (i : ℕ) → i < r ^ n → Stands (s i) (blocks 0 (reversed r n i))
   pub staged : (t : ℕ) → t < n → Staged Stands q r t (n - suc t) (blocks t) (blocks (suc t))
+
+-- such runs exist for all samples: of entries that are the numbers themselves
+abbrev pub RunsExist : Type 0
+RunsExist = (q r n : ℕ) (s : ℕ → Complex) → 1 ≤ r → (blocks : ℕ → ℕ → Complex) × Run (λ x e. x ≡ e) q r n s blocks
 
 -- a relation that a test decides
 abbrev pub Holds : {E : Type 0} → (Complex → E → Bool) → Complex → E → Type 0
