@@ -9,5 +9,5 @@ mod search;
 
 pub use direct::direct_line;
 pub use place::place_of;
-pub use search::first_malformed;
 pub use radix::stage;
+pub use search::first_malformed;

@@ -21,7 +21,7 @@ returns g c =
     let r = c .sum-of-products .result in
     let f : g .S·Scheme .meaning (c .first-malformed .last .s) ≡ m = c .first-malformed .ensures .frame in
     let h : (v : View) (x : ℕ → Complex) → Samples m v size x xs → StandsPair m v (directLine q size x (c .args .k)) r =
-        subst (λ w. (v : View) (x : ℕ → Complex) → Samples w v size x xs → StandsPair w v (directLine q size x (c .args .k)) r) f (c .sum-of-products .ensures .value)
+    subst (λ w. (v : View) (x : ℕ → Complex) → Samples w v size x xs → StandsPair w v (directLine q size x (c .args .k)) r) f (c .sum-of-products .ensures .value)
     in
     let long : size ≤ length xs = omega arith in
     let less : c .args .k < size = omega arith in

@@ -23,12 +23,13 @@ loop-n-holds g c =
     let q = c .args .scale in
     let r = c .product-at-total .result in
     let h : (v : View) (z : Complex) → ((d : _) → StandsPair m0 v z (getD (c .args .block .now) 0 d)) → StandsPair m0 v (twiddle q (0 * c .args .k * (256 / c .args .size)) ⊗ z) r =
-        subst (λ w. (v : View) (z : Complex) → ((d : _) → StandsPair w v z (getD (c .args .block .now) 0 d)) → StandsPair w v (twiddle q (0 * c .args .k * (256 / c .args .size)) ⊗ z) r) f (c .product-at-total .ensures .value)
-    in
-    (refl,
-     λ v x i.
-     let t = term q (c .args .size) (c .args .k) x in
-     stands-as m0 sound0 v (t 0) (sumBelow 1 t) r (sum-first t) (h v (x 0) (λ d. i 0 (omega arith) d)))
+    subst (λ w. (v : View) (z : Complex) → ((d : _) → StandsPair w v z (getD (c .args .block .now) 0 d)) → StandsPair w v (twiddle q (0 * c .args .k * (256 / c .args .size)) ⊗ z) r) f (c .product-at-total .ensures .value)
+    in (
+      refl,
+      λ v x i.
+          let t = term q (c .args .size) (c .args .k) x in
+          stands-as m0 sound0 v (t 0) (sumBelow 1 t) r (sum-first t) (h v (x 0) (λ d. i 0 (omega arith) d)),
+    )
 
 pub loop-n-again : need.loop-n-again
 loop-n-again g c =
@@ -41,14 +42,15 @@ loop-n-again g c =
     let next = c .product-at-next .result in
     let r = c .sum-total .result in
     let h : (v : View) (z : Complex) → ((d : _) → StandsPair m0 v z (getD (c .args .block .now) n d)) → StandsPair m0 v (twiddle q (n * c .args .k * (256 / c .args .size)) ⊗ z) next =
-        subst (λ w. (v : View) (z : Complex) → ((d : _) → StandsPair w v z (getD (c .args .block .now) n d)) → StandsPair w v (twiddle q (n * c .args .k * (256 / c .args .size)) ⊗ z) next) f (c .product-at-next .ensures .value)
+    subst (λ w. (v : View) (z : Complex) → ((d : _) → StandsPair w v z (getD (c .args .block .now) n d)) → StandsPair w v (twiddle q (n * c .args .k * (256 / c .args .size)) ⊗ z) next) f (c .product-at-next .ensures .value)
     in
-    let k : Adds m0 sound0 (c .loop-n .total) next r = simp f2 at (c .sum-total .ensures .value) in
-    (c .sum-total .ensures .frame ∙ f2,
-     λ v x i.
-     let t = term q (c .args .size) (c .args .k) x in
-     stands-as m0 sound0 v (sumBelow n t ⊕ t n) (sumBelow (n + 1) t) r (sum-next n t)
-     (carried-sum m0 sound0 (c .loop-n .total) next r k v (sumBelow n t) (t n) (c .loop-n .inv .1 v x i) (h v (x n) (λ d. i n (c .loop-n-test .taken) d))))
+    let k : Adds m0 sound0 (c .loop-n .total) next r = simp f2 at (c .sum-total .ensures .value) in (
+      c .sum-total .ensures .frame ∙ f2,
+      λ v x i.
+          let t = term q (c .args .size) (c .args .k) x in
+          stands-as m0 sound0 v (sumBelow n t ⊕ t n) (sumBelow (n + 1) t) r (sum-next n t)
+          (carried-sum m0 sound0 (c .loop-n .total) next r k v (sumBelow n t) (t n) (c .loop-n .inv .1 v x i) (h v (x n) (λ d. i n (c .loop-n-test .taken) d))),
+    )
 
 pub returns : need.returns
 returns g c =
@@ -64,7 +66,7 @@ returns g c =
     let total = c .loop-n .total in
     let e : n ≡ size = omega arith in
     let h : (v : View) (x : ℕ → Complex) → Samples m v size x (c .args .block .now) → StandsPair m v (sumBelow n (term q size k x)) total =
-        subst (λ w. (v : View) (x : ℕ → Complex) → Samples w v size x (c .args .block .now) → StandsPair w v (sumBelow n (term q size k x)) total) f0 (c .loop-n .inv .1)
+    subst (λ w. (v : View) (x : ℕ → Complex) → Samples w v size x (c .args .block .now) → StandsPair w v (sumBelow n (term q size k x)) total) f0 (c .loop-n .inv .1)
     in
     record {
       value = λ v x i. stands-as m sound v (sumBelow n (term q size k x)) (directLine q size x k) total (sum-direct q size n k x e) (h v x i);

@@ -12,8 +12,8 @@ returns-in-Some c =
     let h = c .in-Some .ensures tt in
     let less : c .in-Some .span < p .size = omega (arith, h .1) in
     elim (c .match-method .came) [
-      in-Radix2 w ↦ shaped-some p Radix2 tt (sym (w .in-Radix2 .ensures tt)) (c .args .t) (c .match-method .radix) (c .in-Some .span) (w .radix-is) (h .0) less
-    | in-Radix4 w ↦ shaped-some p Radix4 tt (sym (w .in-Radix4 .ensures tt)) (c .args .t) (c .match-method .radix) (c .in-Some .span) (w .radix-is) (h .0) less
+      | in-Radix2 w ↦ shaped-some p Radix2 tt (sym (w .in-Radix2 .ensures tt)) (c .args .t) (c .match-method .radix) (c .in-Some .span) (w .radix-is) (h .0) less
+      | in-Radix4 w ↦ shaped-some p Radix4 tt (sym (w .in-Radix4 .ensures tt)) (c .args .t) (c .match-method .radix) (c .in-Some .span) (w .radix-is) (h .0) less
     ]
 
 pub returns-in-None : need.returns-in-None
@@ -21,6 +21,6 @@ returns-in-None c =
     let p = c .args .plan .now in
     let h = c .in-None .ensures tt in
     elim (c .match-method .came) [
-      in-Radix2 w ↦ shaped-none p Radix2 tt (sym (w .in-Radix2 .ensures tt)) (c .args .t) (c .match-method .radix) (w .radix-is) (omega arith)
-    | in-Radix4 w ↦ shaped-none p Radix4 tt (sym (w .in-Radix4 .ensures tt)) (c .args .t) (c .match-method .radix) (w .radix-is) (omega arith)
+      | in-Radix2 w ↦ shaped-none p Radix2 tt (sym (w .in-Radix2 .ensures tt)) (c .args .t) (c .match-method .radix) (w .radix-is) (omega arith)
+      | in-Radix4 w ↦ shaped-none p Radix4 tt (sym (w .in-Radix4 .ensures tt)) (c .args .t) (c .match-method .radix) (w .radix-is) (omega arith)
     ]

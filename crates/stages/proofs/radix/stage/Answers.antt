@@ -56,7 +56,7 @@ returns g c =
     let after = c .cross-all .last .block in
     let formed : Found m before (p .size) None = subst (λ n. Found m before n None) z (c .in-rest-first-malformed .ensures tt .value) in
     let made : (t : ℕ) → span ≡ r ^ t → Making m q r t groups (groups * span) before after =
-        subst (λ w. (t : ℕ) → span ≡ r ^ t → Making w q r t groups (groups * span) before after) f (c .cross-all .ensures .made)
+    subst (λ w. (t : ℕ) → span ≡ r ^ t → Making w q r t groups (groups * span) before after) f (c .cross-all .ensures .made)
     in
     let long : p .size ≤ length before = omega arith in
     let same : length after ≡ length before = c .cross-all .kept .block in
