@@ -3,8 +3,8 @@ use mathlib.Core.Path.{_≡_, sym}
 use native.Mathlib.Omega.{arith}
 use Rattle.plan.specs.declared.method.Method.the-variants.{Radix2, Radix4}
 use Rattle.stages.proofs.Shapes.{shaped-some, shaped-none}
-use Rattle.stages.proofs.stage.shape.Needs as need
-use Rattle.stages.proofs.stage.shape.Needs.{in-Radix2, in-Radix4}
+use Rattle.stages.proofs.radix.shape.Needs as need
+use Rattle.stages.proofs.radix.shape.Needs.{in-Radix2, in-Radix4}
 
 pub returns-in-Some : need.returns-in-Some
 returns-in-Some c =

@@ -11,8 +11,8 @@ use Rattle.stages.specs.Search.{Found}
 use Rattle.stages.specs.Stage.{Shaped, Making}
 use Rattle.stages.proofs.Finishing.{finished}
 use Rattle.stages.proofs.Shapes.{base-either, size-step}
-use Rattle.stages.proofs.stage.stage.Given as given
-use Rattle.stages.proofs.stage.stage.Needs as need
+use Rattle.stages.proofs.radix.stage.Given as given
+use Rattle.stages.proofs.radix.stage.Needs as need
 
 -- r · r^t lies within the size
 steps : (g : given.Over) (c : need.In-rest-first-malformed g) → (0 < c .in-Some .span) × (0 < c .in-Some .radix * c .in-Some .span) × (c .in-Some .radix * c .in-Some .span ≤ 256)

@@ -6,7 +6,7 @@ use lib.ListN.{length}
 use Rattle.stages.specs.Stage.{CrossedAt, Making}
 use Rattle.stages.proofs.Making.{making-start, making-step}
 use Rattle.stages.proofs.Shapes.{count-small, group-below, group-fits}
-use Rattle.stages.proofs.stage.cross_all.Needs as need
+use Rattle.stages.proofs.radix.cross_all.Needs as need
 
 pub mul-n·end : need.mul-n·end
 mul-n·end g c =

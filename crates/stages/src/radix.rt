@@ -1,4 +1,4 @@
-// One stage in place.
+// The stages of radix 2 and 4, in place.
 ghost use mathlib.Core.Path.{_≡_};
 ghost use Prim.Native.Nat.{ℕ, _+_, _*_, _^_, _<_, _≤_};
 ghost use mathlib.Core.Logic.{_⊎_};
