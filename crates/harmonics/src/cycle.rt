@@ -79,6 +79,13 @@ fn fine_line(k: usize) -> Complex {
     Complex { re, im }
 }
 
+// Writes x at the place, if the block has it.
+fn put<T: Copy>(block: &mut [T], place: usize, x: T) {
+    if place < block.len() {
+        block[place] = x;
+    }
+}
+
 // The meter: seals each sample with mask words of its own and puts it at its place.
 fn seal_cycle<S: Scheme>(
     s: &mut S,
@@ -91,9 +98,7 @@ fn seal_cycle<S: Scheme>(
         let limit = u64::from(plan.sample_scale());
         let pair = pairs::seal(s, limit, Complex { re: *sample, im: 0 }, words)?;
         let place = place_of(plan, n)?;
-        if place < block.len() {
-            block[place] = pair;
-        }
+        put(block, place, pair);
     }
     Ok(())
 }

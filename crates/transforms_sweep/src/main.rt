@@ -11,12 +11,14 @@ use rerandomised::Rerandomised;
 use rerandomised::RerandomisedScheme;
 use scheme::Scheme;
 use scheme::pairs;
+use split::Halves;
 use split::Split;
 use split::SplitScheme;
 use stages::direct_line;
 use stages::place_of;
 use stages::stage;
 use std::error::AnyError;
+use system::Residues;
 use system::System;
 use system::SystemScheme;
 
@@ -50,6 +52,13 @@ fn component(kind: Kind, scale: u32, n: usize, component: u64) -> i64 {
     }
 }
 
+// Writes x at the place, if the block has it.
+fn put<T: Copy>(block: &mut [T], place: usize, x: T) {
+    if place < block.len() {
+        block[place] = x;
+    }
+}
+
 // Seals every sample and puts it at its place.
 fn load<S: Scheme>(
     s: &mut S,
@@ -65,9 +74,7 @@ fn load<S: Scheme>(
         };
         let pair = pairs::seal(s, u64::from(scale), sample, (1, 1))?;
         let place = place_of(plan, n)?;
-        if place < block.len() {
-            block[place] = pair;
-        }
+        put(block, place, pair);
     }
     Ok(())
 }
@@ -94,16 +101,15 @@ fn transform<S: Scheme>(
     rt: &impl Print,
     name: &str,
     s: &mut S,
+    block: &mut [(S::Number, S::Number)],
     plan: &Plan,
     kind: Kind,
 ) -> Result<(), AnyError> {
-    let zero = s.zero();
-    let mut block = [(zero, zero); 256];
-    let Ok(()) = load(s, plan, kind, &mut block) else {
+    let Ok(()) = load(s, plan, kind, block) else {
         return Ok(rt.println("refused")?);
     };
     for t in 0..8 {
-        if stage(s, plan, t, &mut block).is_err() {
+        if stage(s, plan, t, block).is_err() {
             break;
         }
     }
@@ -111,7 +117,7 @@ fn transform<S: Scheme>(
     let size = plan.size();
     println!(rt, "{name} {method} {size}")?;
     for k in 0..size {
-        match line(s, plan, k, &block) {
+        match line(s, plan, k, block) {
             Ok(Complex { re, im }) => println!(rt, "{k} {re} {im}")?,
             Err(_) => rt.println("refused")?,
         }
@@ -124,6 +130,7 @@ fn print_sizes<S: Scheme>(
     rt: &impl Print,
     name: &str,
     s: &mut S,
+    block: &mut [(S::Number, S::Number)],
     method: Method,
     most: u64,
     kind: Kind,
@@ -133,7 +140,7 @@ fn print_sizes<S: Scheme>(
             break;
         }
         if let Ok(plan) = Plan::new(method, size, 1000, 100) {
-            transform(rt, name, s, &plan, kind)?;
+            transform(rt, name, s, block, &plan, kind)?;
         }
     }
     Ok(())
@@ -144,29 +151,107 @@ fn print_methods<S: Scheme>(
     rt: &impl Print,
     name: &str,
     s: &mut S,
+    block: &mut [(S::Number, S::Number)],
     most: u64,
     kind: Kind,
 ) -> Result<(), AnyError> {
-    print_sizes(rt, name, s, Method::Direct, most, kind)?;
-    print_sizes(rt, name, s, Method::Radix2, most, kind)?;
-    print_sizes(rt, name, s, Method::Radix4, most, kind)
+    print_sizes(rt, name, s, block, Method::Direct, most, kind)?;
+    print_sizes(rt, name, s, block, Method::Radix2, most, kind)?;
+    print_sizes(rt, name, s, block, Method::Radix4, most, kind)
+}
+
+// Plain residues, and splits over them.
+fn print_plain(rt: &impl Print) -> Result<(), AnyError> {
+    let Ok(mut plain) = Plain::new((1 << 62) - 1) else {
+        return Ok(());
+    };
+    print_methods(
+        rt,
+        "plain",
+        &mut plain,
+        &mut [(0, 0); 256],
+        256,
+        Kind::Spread,
+    )?;
+    print_methods(rt, "plain", &mut plain, &mut [(0, 0); 256], 256, Kind::Ends)?;
+    let once = Halves {
+        first: 0,
+        second: 0,
+    };
+    let mut split = Split::new(plain);
+    print_methods(
+        rt,
+        "split",
+        &mut split,
+        &mut [(once, once); 16],
+        16,
+        Kind::Spread,
+    )?;
+    let twice = Halves {
+        first: once,
+        second: once,
+    };
+    let mut split = Split::new(Split::new(plain));
+    print_methods(
+        rt,
+        "split twice",
+        &mut split,
+        &mut [(twice, twice); 16],
+        16,
+        Kind::Ends,
+    )
+}
+
+// The largest residue system, and the split over it.
+fn print_system(rt: &impl Print) -> Result<(), AnyError> {
+    let Ok(mut system) = System::new(1_048_575, 1_048_573, 1_048_571) else {
+        return Ok(());
+    };
+    let zero = Residues {
+        first: 0,
+        second: 0,
+        third: 0,
+    };
+    print_methods(
+        rt,
+        "system",
+        &mut system,
+        &mut [(zero, zero); 16],
+        16,
+        Kind::Spread,
+    )?;
+    let halves = Halves {
+        first: zero,
+        second: zero,
+    };
+    let mut split = Split::new(system);
+    print_methods(
+        rt,
+        "split system",
+        &mut split,
+        &mut [(halves, halves); 16],
+        16,
+        Kind::Ends,
+    )
+}
+
+// A scheme from outside the library.
+fn print_rerandomised(rt: &impl Print) -> Result<(), AnyError> {
+    let Ok(mut scheme) = Rerandomised::new((1 << 62) - 1) else {
+        return Ok(());
+    };
+    print_methods(
+        rt,
+        "rerandomised",
+        &mut scheme,
+        &mut [(0, 0); 16],
+        16,
+        Kind::Spread,
+    )
 }
 
 fn main(rt: LibcRuntime) -> Result<(), AnyError> {
-    let n = (1 << 62) - 1;
-    if let Ok(mut plain) = Plain::new(n) {
-        print_methods(&rt, "plain", &mut plain, 256, Kind::Spread)?;
-        print_methods(&rt, "plain", &mut plain, 256, Kind::Ends)?;
-        print_methods(&rt, "split", &mut Split::new(plain), 16, Kind::Spread)?;
-        let mut twice = Split::new(Split::new(plain));
-        print_methods(&rt, "split twice", &mut twice, 16, Kind::Ends)?;
-    }
-    if let Ok(mut system) = System::new(1_048_575, 1_048_573, 1_048_571) {
-        print_methods(&rt, "system", &mut system, 16, Kind::Spread)?;
-        print_methods(&rt, "split system", &mut Split::new(system), 16, Kind::Ends)?;
-    }
-    if let Ok(mut rerandomised) = Rerandomised::new(n) {
-        print_methods(&rt, "rerandomised", &mut rerandomised, 16, Kind::Spread)?;
-    }
-    Ok(())
+    print_plain(&rt)?;
+    print_system(&rt)?;
+    print_rerandomised(&rt)
 }
