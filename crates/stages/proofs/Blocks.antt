@@ -1,17 +1,16 @@
 -- Blocks, place by place.
-use Prim.Native.Nat.{ℕ, zero, suc, _+_, _≤_, _<_}
-use mathlib.Core.Path.{_≡_, refl, sym, _∙_, ap}
+use Prim.Native.Nat.{ℕ, zero, suc, _≤_, _<_}
+use mathlib.Core.Path.{_≡_, refl, sym, ap}
 use mathlib.Core.Bool.{Bool, true, false, _&&_}
 use mathlib.Core.List.{List, [], _∷_, map}
 use native.Mathlib.Nat.{not-suc-le-zero, le-of-suc-le-suc}
-use native.Mathlib.Omega.{arith}
 use borrow.Author.Tests.{clash}
 use lib.IntN.{pos}
-use lib.ListN.{length, getD, set, length-set}
+use lib.ListN.{length, getD}
 use Rattle.integers.specs.Complex.{complex}
 use Rattle.scheme.specs.Meaning.{Meaning, View}
-use Rattle.scheme.specs.Hidden.{WellFormed, StandsPair, readPair}
-use Rattle.stages.specs.Block.{wellFormed, wellFormedAt, readAt, StandsAt}
+use Rattle.scheme.specs.Hidden.{readPair}
+use Rattle.stages.specs.Block.{wellFormed, wellFormedAt, readAt}
 
 module _ {A B : Type 0} where
   -- what is made of the entry at a place

@@ -1,9 +1,9 @@
 -- A finished stage.
-use Prim.Native.Nat.{ℕ, zero, suc, _+_, _-_, _*_, _/_, _%_, _^_, _≤_, _<_}
-use mathlib.Core.Path.{_≡_, refl, sym, _∙_, ap, subst}
-use mathlib.Core.Bool.{Bool, true, false, _&&_}
+use Prim.Native.Nat.{ℕ, suc, _+_, _-_, _*_, _/_, _%_, _^_, _≤_, _<_}
+use mathlib.Core.Path.{_≡_, sym, _∙_, ap, subst}
+use mathlib.Core.Bool.{true}
 use mathlib.Core.List.{List, [], _∷_}
-use native.Mathlib.Nat.{pow-suc, pow-succ', mul-comm, mod-lt, div-add-mod', div-lt-iff-lt-mul}
+use native.Mathlib.Nat.{pow-succ', mod-lt, div-add-mod', div-lt-iff-lt-mul}
 use native.Mathlib.Omega.{arith}
 use lib.Arith.{digits-lt}
 use lib.ListN.{length, getD}
@@ -12,10 +12,10 @@ use Rattle.integers.specs.declared.Complex.{Complex}
 use Rattle.plan.specs.declared.plan.Plan.{Plan}
 use Rattle.plan.specs.Methods.{base}
 use Rattle.scheme.specs.Meaning.{Meaning, Sound, View}
-use Rattle.scheme.specs.Hidden.{StandsPair, WellFormed, readPair}
+use Rattle.scheme.specs.Hidden.{StandsPair}
 use Rattle.scheme.proofs.Standing.{pair-itself}
 use Rattle.lines.specs.Lines.{mix}
-use Rattle.lines.specs.Places.{Mixed, Staged, Standing, place}
+use Rattle.lines.specs.Places.{Staged, Standing, place}
 use Rattle.lines.proofs.Places.{stage-made}
 use Rattle.stages.specs.Block.{wellFormed, wellFormedAt, readAt, StandsAt}
 use Rattle.stages.specs.Search.{Found}

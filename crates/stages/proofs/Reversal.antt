@@ -1,6 +1,6 @@
 -- Digits reversed, from the last digit on.
 use Prim.Native.Nat.{ℕ, zero, suc, _+_, _-_, _*_, _/_, _%_, _^_, _≤_, _<_}
-use mathlib.Core.Path.{_≡_, refl, sym, _∙_, ap}
+use mathlib.Core.Path.{_≡_, refl, _∙_, ap}
 use native.Mathlib.Nat.{pow-zero, pow-suc, suc-mul, mul-zero, mod-lt, mul-le-mul-right, mul-div-le, mul-div-cancel, one-le-pow}
 use native.Mathlib.Omega.{arith}
 use Rattle.lines.specs.Places.{reversed}

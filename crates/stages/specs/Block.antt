@@ -1,7 +1,6 @@
 -- Blocks of hidden pairs, place by place.
 use Prim.Native.Nat.{ℕ, _<_}
-use mathlib.Core.Path.{_≡_}
-use mathlib.Core.Bool.{Bool, true, false, _&&_}
+use mathlib.Core.Bool.{Bool, false, _&&_}
 use mathlib.Core.List.{List, map}
 use lib.IntN.{pos}
 use lib.ListN.{length, getD}

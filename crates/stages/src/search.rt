@@ -1,7 +1,6 @@
 // The search for a malformed pair.
 ghost use mathlib.Core.Path.{_≡_};
 ghost use Prim.Native.Nat.{_<_};
-ghost use lib.ListN.{length};
 ghost use Rattle.stages.specs.Block.{wellFormedAt};
 ghost use Rattle.stages.specs.Search.{Found};
 use crate::block;

@@ -1,8 +1,6 @@
-use Prim.Native.Nat.{ℕ, _^_, _<_}
 use mathlib.Core.Path.{_≡_, sym, _∙_, ap}
 use mathlib.Core.Bool.{true}
 use native.Mathlib.Omega.{arith}
-use borrow.Author.Needs.{needs}
 use Rattle.plan.specs.declared.method.Method.the-variants.{Radix2, Radix4}
 use Rattle.plan.specs.Methods.{sized}
 use Rattle.lines.specs.Places.{placeOf}
