@@ -1,9 +1,9 @@
 -- One butterfly in place, from the pairs that are read, mixed and written.
-use Prim.Native.Nat.{ℕ, zero, suc, _+_, _*_, _^_, _≤_, _<_}
+use Prim.Native.Nat.{ℕ, zero, suc, _+_, _*_, _^_, _<_}
 use mathlib.Core.Path.{_≡_, refl, sym, _∙_, ap, subst}
 use mathlib.Core.Logic.{_≢_}
 use mathlib.Core.List.{List}
-use native.Mathlib.Nat.{pow-succ', zero-mul, one-mul}
+use native.Mathlib.Nat.{pow-succ'}
 use native.Mathlib.Omega.{arith}
 use lib.ListN.{length, getD, set, length-set}
 use lib.Seq.{getD-set-same, getD-set-other}
@@ -12,7 +12,7 @@ use Rattle.integers.specs.Complex.{_⊗_}
 use Rattle.scheme.specs.Meaning.{Meaning, View}
 use Rattle.scheme.specs.Hidden.{StandsPair}
 use Rattle.lines.specs.Lines.{weight, butterfly, mix}
-use Rattle.lines.specs.Places.{Crossed, Mixed, place}
+use Rattle.lines.specs.Places.{Mixed, place}
 use Rattle.stages.specs.Mixing.{Two, Four}
 use Rattle.stages.specs.Stage.{entries, CrossedAt}
 

@@ -2,18 +2,16 @@
 use Prim.Native.Nat.{ℕ, zero, suc, _+_, _*_, _/_, _%_, _^_, _≤_, _<_}
 use mathlib.Core.Path.{_≡_, refl, sym, _∙_, ap, subst}
 use mathlib.Core.List.{List, []}
-use native.Mathlib.Nat.{pow-succ', mod-lt, div-add-mod', div-lt-iff-lt-mul}
+use native.Mathlib.Nat.{pow-succ'}
 use native.Mathlib.Decide.{decLt}
 use native.Mathlib.Omega.{arith}
 use lib.Arith.{digits-lt, digits-div, digits-mod}
-use lib.ListN.{length, getD}
-use Rattle.integers.specs.declared.Complex.{Complex}
 use Rattle.scheme.specs.Meaning.{Meaning, View}
 use Rattle.scheme.specs.Hidden.{StandsPair}
 use Rattle.lines.specs.Lines.{mix}
-use Rattle.lines.specs.Places.{Crossed, Mixed, Staged, place}
+use Rattle.lines.specs.Places.{Crossed, Mixed, place}
 use Rattle.lines.proofs.Places.{place-group, place-offset}
-use Rattle.stages.specs.Stage.{entries, CrossedAt, Making}
+use Rattle.stages.specs.Stage.{entries, Making}
 
 -- a butterfly of one of the groups lies in the groups
 pub place-inside : (r t groups g k i : ℕ) → g < groups → k < r ^ t → i < r → place r t g k i < groups * r ^ suc t

@@ -1,7 +1,7 @@
 -- Counting: groups, offsets and powers.
-use Prim.Native.Nat.{ℕ, zero, suc, _+_, _-_, _*_, _/_, _%_, _^_, _≤_, _<_}
+use Prim.Native.Nat.{ℕ, suc, _+_, _-_, _*_, _/_, _^_, _≤_, _<_}
 use mathlib.Core.Path.{_≡_, refl, sym, _∙_, ap, subst}
-use native.Mathlib.Nat.{pow-suc, pow-succ', pow-le-pow-right, mul-le-mul, mul-le-mul-left, mul-le-mul-right, one-mul, suc-mul, mul-assoc, mul-comm, mul-div-cancel, div-lt-iff-lt-mul}
+use native.Mathlib.Nat.{pow-suc, pow-succ', pow-le-pow-right, mul-le-mul-left, mul-le-mul-right, one-mul, suc-mul, mul-comm, mul-div-cancel, div-lt-iff-lt-mul}
 use native.Mathlib.Decide.{decLt}
 use native.Mathlib.Omega.{arith}
 use lib.Pow.{pow-add}

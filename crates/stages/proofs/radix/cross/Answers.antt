@@ -1,4 +1,4 @@
-use mathlib.Core.Path.{_≡_, sym, subst}
+use mathlib.Core.Path.{_≡_, subst}
 use native.Mathlib.Omega.{arith}
 use Rattle.stages.specs.Stage.{CrossedAt}
 use Rattle.stages.proofs.radix.cross.Needs as need

@@ -1,4 +1,4 @@
-use Prim.Native.Nat.{ℕ, _+_, _*_, _/_, _%_, _^_, _≤_, _<_}
+use Prim.Native.Nat.{_+_, _*_, _/_, _%_, _≤_, _<_}
 use mathlib.Core.Path.{_≡_, refl, sym, _∙_, ap, subst}
 use native.Mathlib.Nat.{mod-lt, div-add-mod'}
 use native.Mathlib.Omega.{arith}
@@ -8,8 +8,8 @@ use Rattle.stages.proofs.Making.{making-start, making-step}
 use Rattle.stages.proofs.Shapes.{count-small, group-below, group-fits}
 use Rattle.stages.proofs.radix.cross_all.Needs as need
 
-pub mul-n·end : need.mul-n·end
-mul-n·end g c =
+pub mul-count : need.mul-count
+mul-count g c =
     let one : 1 ≤ c .args .radix = omega (arith, c .pre .radix) in
     let h = count-small (c .args .groups) (c .args .radix) (c .args .span) 256 one (c .pre .span .1) in
     omega arith

@@ -1,5 +1,5 @@
-use Prim.Native.Nat.{_≤_, _<_}
-use mathlib.Core.Path.{_≡_, sym}
+use Prim.Native.Nat.{_<_}
+use mathlib.Core.Path.{sym}
 use native.Mathlib.Omega.{arith}
 use Rattle.plan.specs.declared.method.Method.the-variants.{Radix2, Radix4}
 use Rattle.stages.proofs.Shapes.{shaped-some, shaped-none}

@@ -1,14 +1,14 @@
-use Prim.Native.Nat.{ℕ, _+_, _*_, _/_, _^_, _≤_, _<_}
-use mathlib.Core.Path.{_≡_, refl, sym, _∙_, ap, subst}
+use Prim.Native.Nat.{ℕ, _*_, _/_, _^_, _≤_, _<_}
+use mathlib.Core.Path.{_≡_, sym, _∙_, ap, subst}
 use mathlib.Core.Logic.{_⊎_}
-use native.Mathlib.Nat.{mul-le-mul, div-mul-le-self}
+use native.Mathlib.Nat.{div-mul-le-self}
 use native.Mathlib.Omega.{arith}
 use lib.ListN.{length}
 use Rattle.plan.specs.Methods.{base}
 use Rattle.plan.proofs.Powers.{at-most-256}
-use Rattle.std.specs.declared.option.Option.the-variants.{Some, None}
+use Rattle.std.specs.declared.option.Option.the-variants.{None}
 use Rattle.stages.specs.Search.{Found}
-use Rattle.stages.specs.Stage.{Shaped, Making}
+use Rattle.stages.specs.Stage.{Making}
 use Rattle.stages.proofs.Finishing.{finished}
 use Rattle.stages.proofs.Shapes.{base-either, size-step}
 use Rattle.stages.proofs.radix.stage.Given as given
