@@ -1,0 +1,44 @@
+-- Blocks, place by place.
+use Prim.Native.Nat.{ℕ, zero, suc, _+_, _≤_, _<_}
+use mathlib.Core.Path.{_≡_, refl, sym, _∙_, ap}
+use mathlib.Core.Bool.{Bool, true, false, _&&_}
+use mathlib.Core.List.{List, [], _∷_, map}
+
+use native.Mathlib.Nat.{not-suc-le-zero, le-of-suc-le-suc}
+use native.Mathlib.Omega.{arith}
+use lib.IntN.{pos}
+use lib.ListN.{length, getD, set, length-set}
+use Rattle.integers.specs.Complex.{complex}
+use Rattle.scheme.specs.Meaning.{Meaning, View}
+use Rattle.scheme.specs.Hidden.{WellFormed, StandsPair, readPair}
+use Rattle.stages.specs.Block.{sound, soundAt, readAt, StandsAt}
+
+module _ {A B : Type 0} where
+  -- what is made of the entry at a place
+  pub map-there : (f : A → B) (xs : List A) (i : ℕ) (x : A) (e : B) → i < length xs → x ≡ getD xs i x → getD (map f xs) i e ≡ f x
+  map-there f [] i x e h r = absurd (not-suc-le-zero h)
+  map-there f (y ∷ ys) zero x e h r = ap f (sym r)
+  map-there f (y ∷ ys) (suc i) x e h r = map-there f ys i x e (le-of-suc-le-suc h) r
+
+  -- past the end there is nothing
+  pub map-past : (f : A → B) (xs : List A) (i : ℕ) (e : B) → length xs ≤ i → getD (map f xs) i e ≡ e
+  map-past f [] i e h = refl
+  map-past f (y ∷ ys) zero e h = absurd (not-suc-le-zero h)
+  map-past f (y ∷ ys) (suc i) e h = map-past f ys i e (le-of-suc-le-suc h)
+
+-- both hold
+pub both : {a b c d : Bool} → a ≡ c → b ≡ d → a && b ≡ c && d
+both {a} {b} {c} {d} p q = rw (p, q)
+
+module _ {Number : Type 0} (m : Meaning Number) where
+  pub sound-past : (xs : List (Number × Number)) (i : ℕ) → length xs ≤ i → soundAt m xs i ≡ false
+  unfolding soundAt
+  sound-past xs i h = map-past (sound m) xs i false h
+
+  pub sound-there : (xs : List (Number × Number)) (i : ℕ) (p : Number × Number) → i < length xs → p ≡ getD xs i p → soundAt m xs i ≡ sound m p
+  unfolding soundAt
+  sound-there xs i p h r = map-there (sound m) xs i p false h r
+
+  pub read-there : (v : View) (xs : List (Number × Number)) (i : ℕ) (p : Number × Number) → i < length xs → p ≡ getD xs i p → readAt m v xs i ≡ readPair m v p
+  unfolding readAt
+  read-there v xs i p h r = map-there (readPair m v) xs i p (complex (pos 0) (pos 0)) h r

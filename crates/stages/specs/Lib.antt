@@ -1,0 +1,4 @@
+pub mod Block
+pub mod Mixing
+pub mod Place
+pub mod Search

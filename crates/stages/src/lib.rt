@@ -1,0 +1,9 @@
+// Transforms on lent blocks of hidden pairs, under every scheme: the place of a sample, the search for a malformed pair, one stage,
+// one direct line.
+mod block;
+mod butterfly;
+mod place;
+mod search;
+
+pub use place::place_of;
+pub use search::first_malformed;
