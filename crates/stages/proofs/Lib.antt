@@ -1,3 +1,5 @@
 pub mod Blocks
 pub mod Carrying
+pub mod Crossing
+pub mod Making
 pub mod Reversal

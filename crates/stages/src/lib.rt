@@ -4,6 +4,7 @@ mod block;
 mod butterfly;
 mod place;
 mod search;
+mod stage;
 
 pub use place::place_of;
 pub use search::first_malformed;
