@@ -70,8 +70,18 @@ fn cross2<S: Scheme>(
 // A butterfly of radix 4: four sums, four differences and one factor −j.
 fn cross4<S: Scheme>(
     s: &mut S,
-    x: ((S::Number, S::Number), (S::Number, S::Number), (S::Number, S::Number), (S::Number, S::Number)),
-) -> ((S::Number, S::Number), (S::Number, S::Number), (S::Number, S::Number), (S::Number, S::Number))
+    x: (
+        (S::Number, S::Number),
+        (S::Number, S::Number),
+        (S::Number, S::Number),
+        (S::Number, S::Number),
+    ),
+) -> (
+    (S::Number, S::Number),
+    (S::Number, S::Number),
+    (S::Number, S::Number),
+    (S::Number, S::Number),
+)
     ensures value { λ r. ⌜ ((v : View) (z : ℕ → Value) → Four (meaning (now (s .entry))) v z x → Four (meaning (now (s .entry))) v (butterfly 4 z) r) ⌝ }
     ensures frame { λ _. ⌜ meaning (now (s .exit)) ≡ meaning (now (s .entry)) ⌝ }
 {
@@ -113,8 +123,18 @@ pub(crate) fn mix4<S: Scheme>(
     scale: u32,
     size: usize,
     k: usize,
-    x: ((S::Number, S::Number), (S::Number, S::Number), (S::Number, S::Number), (S::Number, S::Number)),
-) -> ((S::Number, S::Number), (S::Number, S::Number), (S::Number, S::Number), (S::Number, S::Number))
+    x: (
+        (S::Number, S::Number),
+        (S::Number, S::Number),
+        (S::Number, S::Number),
+        (S::Number, S::Number),
+    ),
+) -> (
+    (S::Number, S::Number),
+    (S::Number, S::Number),
+    (S::Number, S::Number),
+    (S::Number, S::Number),
+)
     requires line { ⌜ k < size ⌝ ∗ ⌜ size ≤ 256 ⌝ }
     requires exact { ⌜ (size ≤ 4 → k ≡ 0) ⌝ }
     ensures value { λ r. ⌜ ((v : View) (z : ℕ → Value) → Four (meaning (now (s .entry))) v z x → Four (meaning (now (s .entry))) v (butterfly 4 (λ i. weight scale size i k ⊗ z i)) r) ⌝ }

@@ -22,7 +22,7 @@ returns g c =
     let w2 : c .put-3 .last .block ≡ set (set (set xs p0 (out .0)) p1 (out .1)) p2 (out .2) = c .put-3 .ensures ∙ ap (λ l. set l p2 (out .2)) w1 in
     let w3 : c .put-4 .last .block ≡ set (set (set (set xs p0 (out .0)) p1 (out .1)) p2 (out .2)) p3 (out .3) = c .put-4 .ensures ∙ ap (λ l. set l p3 (out .3)) w2 in
     let x : CrossedAt m (c .args .scale) 4 span (c .args .group) k xs (set (set (set (set xs p0 (out .0)) p1 (out .1)) p2 (out .2)) p3 (out .3)) =
-        crossed4 m (c .args .scale) span (c .args .group) k xs (c .at .result) (c .at-2 .result) (c .at-3 .result) (c .at-4 .result) (out .0) (out .1) (out .2) (out .3) p0 p1 p2 p3 (omega arith) (omega arith) (omega arith) (omega arith) (omega arith) (omega arith) (c .at .ensures) (c .at-2 .ensures) (c .at-3 .ensures) (c .at-4 .ensures) (c .mix4-a .ensures .value)
+    crossed4 m (c .args .scale) span (c .args .group) k xs (c .at .result) (c .at-2 .result) (c .at-3 .result) (c .at-4 .result) (out .0) (out .1) (out .2) (out .3) p0 p1 p2 p3 (omega arith) (omega arith) (omega arith) (omega arith) (omega arith) (omega arith) (c .at .ensures) (c .at-2 .ensures) (c .at-3 .ensures) (c .at-4 .ensures) (c .mix4-a .ensures .value)
     in
     record {
       crossed = rw w3 x;

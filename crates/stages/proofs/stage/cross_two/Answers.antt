@@ -18,7 +18,7 @@ returns g c =
     let w0 : c .put .last .block ≡ set xs p0 (out .0) = c .put .ensures in
     let w1 : c .put-2 .last .block ≡ set (set xs p0 (out .0)) p1 (out .1) = c .put-2 .ensures ∙ ap (λ l. set l p1 (out .1)) w0 in
     let x : CrossedAt m (c .args .scale) 2 span (c .args .group) k xs (set (set xs p0 (out .0)) p1 (out .1)) =
-        crossed2 m (c .args .scale) span (c .args .group) k xs (c .at .result) (c .at-2 .result) (out .0) (out .1) p0 p1 (omega arith) (omega arith) (omega arith) (omega arith) (c .at .ensures) (c .at-2 .ensures) (c .mix2-a .ensures .value)
+    crossed2 m (c .args .scale) span (c .args .group) k xs (c .at .result) (c .at-2 .result) (out .0) (out .1) p0 p1 (omega arith) (omega arith) (omega arith) (omega arith) (c .at .ensures) (c .at-2 .ensures) (c .mix2-a .ensures .value)
     in
     record {
       crossed = rw w1 x;
