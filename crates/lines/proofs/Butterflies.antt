@@ -1,20 +1,17 @@
 -- Butterflies and weights written out, radix by radix.
-use mathlib.Core.Path.{_≡_, refl, sym, _∙_, ap, ap₂}
-use mathlib.Core.Bool.{Bool, true, false, cond}
-use Prim.Native.Nat.{ℕ, zero, suc, _+_, _*_, _/_, _^_, _<_, _≤_}
+use mathlib.Core.Path.{_≡_, refl, ap, ap₂}
+use Prim.Native.Nat.{ℕ, zero, suc, _*_, _/_, _<_, _≤_}
 use native.Mathlib.Nat.{mul-one}
 use native.Mathlib.Omega.{arith}
 use borrow.Author.Differences.{ints}
 use borrow.Author.Tests.{le-leb, lt-leb}
-use lib.Dec.{leb}
 use lib.IntN.{pos}
 use Rattle.integers.specs.declared.Complex.{Complex}
-use Rattle.integers.specs.Complex.{complex, _⊕_, _⊖_, _⊗_, real, quarterTurn}
-use Rattle.integers.proofs.ComplexRing.{complex-same, one-⊗}
+use Rattle.integers.specs.Complex.{_⊕_, _⊖_, real, quarterTurn}
+use Rattle.integers.proofs.ComplexRing.{complex-same}
 use Rattle.circle.specs.Near.{turned}
 use Rattle.circle.specs.Twiddle.{twiddle}
-use Rattle.circle.proofs.Turns.{turned-mul}
-use Rattle.lines.specs.Lines.{sumBelow, butterfly, weight, mix}
+use Rattle.lines.specs.Lines.{sumBelow, butterfly, weight}
 
 -- radix 2: a + b and a − b
 

@@ -4,3 +4,9 @@ pub mod Butterflies
 pub mod Sizes
 pub mod Stages
 pub mod Rules
+pub mod Bounds
+pub mod Sums
+pub mod Nears
+pub mod Fine
+pub mod Distances
+pub mod Digits

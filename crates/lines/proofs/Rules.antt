@@ -1,14 +1,14 @@
 -- The rules of the lines hold of the definition, and of nothing else at lawful sizes.
 use mathlib.Core.Path.{_≡_, refl, sym, _∙_, ap, ap₂, subst}
-use mathlib.Core.Bool.{Bool, true, false}
+use mathlib.Core.Bool.{true}
 use Prim.Native.Nat.{ℕ, zero, suc, _+_, _-_, _*_, _/_, _%_, _^_, _<_, _≤_}
-use native.Mathlib.Nat.{one-mul, mul-zero, zero-mul, zero-add, add-zero, mod-lt, div-lt-iff-lt-mul, mod-add-div'}
+use native.Mathlib.Nat.{one-mul, mod-lt, div-lt-iff-lt-mul, mod-add-div'}
 use native.Mathlib.Decide.{decLt}
 use native.Mathlib.Omega.{arith}
 use lib.Dec.{lit<, lit≤}
 use lib.IntN.{pos}
 use Rattle.integers.specs.declared.Complex.{Complex}
-use Rattle.integers.specs.Complex.{_⊕_, _⊖_, _⊗_, real, quarterTurn}
+use Rattle.integers.specs.Complex.{_⊕_, _⊖_, _⊗_, real}
 use Rattle.integers.proofs.ComplexRing.{one-⊗}
 use Rattle.circle.specs.Near.{turned}
 use Rattle.circle.specs.Twiddle.{twiddle}
@@ -17,7 +17,7 @@ use Rattle.plan.specs.declared.method.Method.{Method}
 use Rattle.plan.specs.declared.method.Method.the-variants.{Direct, Radix2, Radix4}
 use Rattle.plan.specs.Methods.{sizes, sized}
 use Rattle.plan.proofs.Powers.{carried}
-use Rattle.lines.specs.Lines.{sumBelow, part, weight, butterfly, mix, radixLine, directLine, divisions, stagesOf, lineOf}
+use Rattle.lines.specs.Lines.{sumBelow, part, weight, mix, radixLine, directLine, divisions, lineOf}
 use Rattle.lines.specs.Rules.{Crossing, factor, LineRules, OneTransform}
 use Rattle.lines.proofs.Butterflies.{butterfly-sum, butterfly-difference, butterfly-turns, sum-same, weight-first, weight-next, weight-first-small, weight-small}
 use Rattle.lines.proofs.Places.{line-step}

@@ -2,7 +2,7 @@
 use mathlib.Core.Path.{_≡_, refl}
 use mathlib.Core.Bool.{true}
 use Prim.Native.Nat.{ℕ, _^_}
-use Rattle.plan.specs.declared.method.Method.the-variants.{Direct, Radix2, Radix4}
+use Rattle.plan.specs.declared.method.Method.the-variants.{Radix2, Radix4}
 use Rattle.plan.specs.Methods.{sizes, sized}
 use Rattle.plan.proofs.Powers.{carried}
 use Rattle.lines.specs.Lines.{divisions, stagesOf}

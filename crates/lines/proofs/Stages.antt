@@ -1,12 +1,10 @@
 -- Stages compose: the theorem on places, at relations that a test decides.
 use mathlib.Core.Path.{_≡_, sym, subst}
-use mathlib.Core.Bool.{Bool, true}
 use Prim.Native.Nat.{ℕ, _-_, _^_, _<_, _≤_}
 use native.Mathlib.Omega.{arith}
 use lib.Dec.{lit≤}
 use Rattle.integers.specs.declared.Complex.{Complex}
-use Rattle.plan.specs.declared.method.Method.the-variants.{Direct, Radix2, Radix4}
-use Rattle.plan.specs.Methods.{sized}
+use Rattle.plan.specs.declared.method.Method.the-variants.{Radix2, Radix4}
 use Rattle.lines.specs.Lines.{radixLine, stagesOf}
 use Rattle.lines.specs.Places.{Standing, Run, Holds, StagesCompose}
 use Rattle.lines.proofs.Places.{run-stands, finished}

@@ -1,5 +1,5 @@
 -- The transforms over whole numbers. Samples are s(0), s(1), ..; the lines of a size m are S(0) to S(m − 1), and S(k) is also called line k.
-use mathlib.Core.Bool.{Bool, true, false, cond}
+use mathlib.Core.Bool.{cond}
 use Prim.Native.Nat.{ℕ, zero, suc, _+_, _*_, _/_, _%_, _^_}
 use lib.Dec.{leb}
 use lib.IntN.{pos}

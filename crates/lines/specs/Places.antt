@@ -20,6 +20,15 @@ placeOf Direct m n = n
 placeOf Radix2 m n = reversed 2 (stagesOf Radix2 m) n
 placeOf Radix4 m n = reversed 4 (stagesOf Radix4 m) n
 
+-- What places and stages are, in terms of digits: the size is the radix to the number of stages; the place of a sample lies below the size,
+-- has the same digits in the opposite order, and the place of a place is the sample again.
+pub record PlacesStand : Type 0 where
+  pub stages2 : (m : ℕ) → sized Radix2 m ≡ true → 2 ^ stagesOf Radix2 m ≡ m
+  pub stages4 : (m : ℕ) → sized Radix4 m ≡ true → 4 ^ stagesOf Radix4 m ≡ m
+  pub digits : (r u g j : ℕ) → 1 ≤ r → j < u → reversed r u g / r ^ j % r ≡ g / r ^ (u - suc j) % r
+  pub below : (k : Method) (m n : ℕ) → sized k m ≡ true → n < m → placeOf k m n < m
+  pub back : (k : Method) (m n : ℕ) → sized k m ≡ true → n < m → placeOf k m (placeOf k m n) ≡ n
+
 -- the samples whose last u digits are those of g reversed
 abbrev pub share : ℕ → ℕ → ℕ → (ℕ → Complex) → ℕ → Complex
 share r u g s n = s (n * r ^ u + reversed r u g)
