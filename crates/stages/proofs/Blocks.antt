@@ -5,6 +5,7 @@ use mathlib.Core.Bool.{Bool, true, false, _&&_}
 use mathlib.Core.List.{List, [], _∷_, map}
 use native.Mathlib.Nat.{not-suc-le-zero, le-of-suc-le-suc}
 use native.Mathlib.Omega.{arith}
+use borrow.Author.Tests.{clash}
 use lib.IntN.{pos}
 use lib.ListN.{length, getD, set, length-set}
 use Rattle.integers.specs.Complex.{complex}
@@ -24,6 +25,16 @@ module _ {A B : Type 0} where
   map-past f [] i e h = refl
   map-past f (y ∷ ys) zero e h = absurd (not-suc-le-zero h)
   map-past f (y ∷ ys) (suc i) e h = map-past f ys i e (le-of-suc-le-suc h)
+
+-- within a block the default does not count
+pub entry-itself : {A : Type 0} (xs : List A) (i : ℕ) (d : A) → i < length xs → getD xs i d ≡ getD xs i (getD xs i d)
+entry-itself [] i d h = absurd (not-suc-le-zero h)
+entry-itself (x ∷ xs) zero d h = refl
+entry-itself (x ∷ xs) (suc i) d h = entry-itself xs i d (le-of-suc-le-suc h)
+
+pub both-true : (a b : Bool) → a && b ≡ true → (a ≡ true) × (b ≡ true)
+both-true true b h = (refl, h)
+both-true false b h = absurd (clash h)
 
 -- both hold
 pub both : {a b c d : Bool} → a ≡ c → b ≡ d → a && b ≡ c && d

@@ -2,7 +2,7 @@
 use Prim.Native.Nat.{ℕ, zero, suc, _+_, _*_, _/_, _%_, _^_, _≤_, _<_}
 use mathlib.Core.Path.{_≡_, refl, sym, _∙_, ap, subst}
 use mathlib.Core.List.{List, []}
-use native.Mathlib.Nat.{mod-lt, div-add-mod', div-lt-iff-lt-mul}
+use native.Mathlib.Nat.{pow-succ', mod-lt, div-add-mod', div-lt-iff-lt-mul}
 use native.Mathlib.Decide.{decLt}
 use native.Mathlib.Omega.{arith}
 use lib.Arith.{digits-lt, digits-div, digits-mod}
@@ -15,6 +15,20 @@ use Rattle.lines.specs.Places.{Crossed, Mixed, Staged, place}
 use Rattle.lines.proofs.Places.{place-group, place-offset}
 use Rattle.stages.specs.Stage.{entries, CrossedAt, Making}
 
+-- a butterfly of one of the groups lies in the groups
+pub place-inside : (r t groups g k i : ℕ) → g < groups → k < r ^ t → i < r → place r t g k i < groups * r ^ suc t
+unfolding place
+place-inside r t groups g k i hg hk hi =
+    let a : i * r ^ t + k < r ^ suc t = rw pow-succ' (digits-lt hi hk) in
+    digits-lt hg a
+
+-- up to size 4 the factors of radix 2 are exact
+pub exact-offset : (k span : ℕ) → k < span → 2 * span ≤ 4 → k * (4 / (2 * span)) ≤ 1
+exact-offset k zero h l = absurd (omega arith)
+exact-offset k (suc zero) h l = omega arith
+exact-offset k (suc (suc zero)) h l = omega arith
+exact-offset k (suc (suc (suc n))) h l = absurd (omega arith)
+
 module _ {Number : Type 0} (m : Meaning Number) (q r t groups : ℕ) where
   pub making-start : (xs : List (Number × Number)) → Making m q r t groups 0 xs xs
   making-start xs = record { done = λ v d g k a b c. absurd (omega arith); left = λ d g k i a b c. refl; past = λ d p h. refl }
@@ -24,8 +38,8 @@ module _ {Number : Type 0} (m : Meaning Number) (q r t groups : ℕ) where
   mixed-from v g k a b c e first last h x stood l less =
       subst (StandsPair m v (mix q r t k x l)) (last l less) (h x (λ i n. subst (StandsPair m v (x i)) (first i n) (stood i n)) l less)
 
-  pub making-step : (b g k : ℕ) (start before after : List (Number × Number)) → g < groups → k < r ^ t → b ≡ g * r ^ t + k → ((p : ℕ) → groups * r ^ suc t ≤ p → (i : ℕ) → i < r → p ≡ place r t g k i → ⊥) → Making m q r t groups b start before → ((v : View) (d : Number × Number) → Crossed (StandsPair m v) q r t g k (entries d before) (entries d after)) → Making m q r t groups (b + 1) start after
-  making-step b g k start before after hg hk eb out h c = record { done = done; left = left; past = past }
+  pub making-step : (b g k : ℕ) (start before after : List (Number × Number)) → g < groups → k < r ^ t → b ≡ g * r ^ t + k → Making m q r t groups b start before → ((v : View) (d : Number × Number) → Crossed (StandsPair m v) q r t g k (entries d before) (entries d after)) → Making m q r t groups (b + 1) start after
+  making-step b g k start before after hg hk eb h c = record { done = done; left = left; past = past }
     where
       v0 : View
       v0 = []
@@ -61,4 +75,4 @@ module _ {Number : Type 0} (m : Meaning Number) (q r t groups : ℕ) where
       left d g′ k′ i hk′ hi more = apart d g′ k′ i hk′ hi (λ x. omega arith) ∙ h .left d g′ k′ i hk′ hi (omega arith)
 
       past : (d : Number × Number) (p : ℕ) → groups * r ^ suc t ≤ p → entries d after p ≡ entries d start p
-      past d p far = c v0 d .kept p (out p far) ∙ h .past d p far
+      past d p far = c v0 d .kept p (λ i hi e. let n = place-inside r t groups g k i hg hk hi in omega arith) ∙ h .past d p far

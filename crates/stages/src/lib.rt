@@ -8,3 +8,4 @@ mod stage;
 
 pub use place::place_of;
 pub use search::first_malformed;
+pub use stage::stage;

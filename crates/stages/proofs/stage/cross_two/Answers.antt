@@ -3,8 +3,12 @@ use mathlib.Core.Path.{_≡_, refl, sym, _∙_, ap}
 use native.Mathlib.Omega.{arith}
 use lib.ListN.{length, set}
 use Rattle.stages.specs.Stage.{CrossedAt}
+use Rattle.stages.proofs.Making.{exact-offset}
 use Rattle.stages.proofs.Crossing.{crossed2}
 use Rattle.stages.proofs.stage.cross_two.Needs as need
+
+pub mix2-a-requires : need.mix2-a-requires
+mix2-a-requires g c κs = record { line = (omega arith, omega arith); exact = exact-offset (c .args .offset) (c .args .span) (c .pre .span .0) }
 
 pub returns : need.returns
 returns g c =
