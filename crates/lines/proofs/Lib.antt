@@ -10,3 +10,4 @@ pub mod Nears
 pub mod Fine
 pub mod Distances
 pub mod Digits
+pub mod Runs

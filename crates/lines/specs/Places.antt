@@ -64,6 +64,10 @@ pub record Run {E : Type 0} (Stands : Complex → E → Type 0) (q r n : ℕ) (s
   pub loaded : (i : ℕ) → i < r ^ n → Stands (s i) (blocks 0 (reversed r n i))
   pub staged : (t : ℕ) → t < n → Staged Stands q r t (n - suc t) (blocks t) (blocks (suc t))
 
+-- such runs exist for all samples: of entries that are the numbers themselves
+abbrev pub RunsExist : Type 0
+RunsExist = (q r n : ℕ) (s : ℕ → Complex) → 1 ≤ r → (blocks : ℕ → ℕ → Complex) × Run (λ x e. x ≡ e) q r n s blocks
+
 -- a relation that a test decides
 abbrev pub Holds : {E : Type 0} → (Complex → E → Bool) → Complex → E → Type 0
 Holds stands x e = stands x e ≡ true

@@ -1,7 +1,7 @@
 // Lines: the transforms over whole numbers, and theorems about them, each on the contract of a function.
 ghost use Rattle.lines.specs.Examples.{LineFigures};
 ghost use Rattle.lines.specs.Laws.{LinesBounded, LinesMeant, LinesNear};
-ghost use Rattle.lines.specs.Places.{PlacesStand, StagesCompose};
+ghost use Rattle.lines.specs.Places.{PlacesStand, RunsExist, StagesCompose};
 ghost use Rattle.lines.specs.Rules.{OneTransform};
 
 // The worked figures of lines, plans and the circle, in one statement.
@@ -21,6 +21,13 @@ pub fn places_stand() -> u8
 // Stages compose, whatever it is for an entry of type E to stand for a number.
 pub fn stages_compose<E>() -> u8
     ensures { λ _. ⌜ StagesCompose E ⌝ }
+{
+    0
+}
+
+// There are runs of stages, for all samples and every number of stages.
+pub fn runs_exist() -> u8
+    ensures { λ _. ⌜ RunsExist ⌝ }
 {
     0
 }

@@ -11,7 +11,7 @@ use lib.ListN.{length, getD, set, length-set}
 use Rattle.integers.specs.Complex.{complex}
 use Rattle.scheme.specs.Meaning.{Meaning, View}
 use Rattle.scheme.specs.Hidden.{WellFormed, StandsPair, readPair}
-use Rattle.stages.specs.Block.{sound, soundAt, readAt, StandsAt}
+use Rattle.stages.specs.Block.{wellFormed, wellFormedAt, readAt, StandsAt}
 
 module _ {A B : Type 0} where
   -- what is made of the entry at a place
@@ -41,13 +41,13 @@ pub both : {a b c d : Bool} → a ≡ c → b ≡ d → a && b ≡ c && d
 both {a} {b} {c} {d} p q = rw (p, q)
 
 module _ {Number : Type 0} (m : Meaning Number) where
-  pub sound-past : (xs : List (Number × Number)) (i : ℕ) → length xs ≤ i → soundAt m xs i ≡ false
-  unfolding soundAt
-  sound-past xs i h = map-past (sound m) xs i false h
+  pub sound-past : (xs : List (Number × Number)) (i : ℕ) → length xs ≤ i → wellFormedAt m xs i ≡ false
+  unfolding wellFormedAt
+  sound-past xs i h = map-past (wellFormed m) xs i false h
 
-  pub sound-there : (xs : List (Number × Number)) (i : ℕ) (p : Number × Number) → i < length xs → p ≡ getD xs i p → soundAt m xs i ≡ sound m p
-  unfolding soundAt
-  sound-there xs i p h r = map-there (sound m) xs i p false h r
+  pub sound-there : (xs : List (Number × Number)) (i : ℕ) (p : Number × Number) → i < length xs → p ≡ getD xs i p → wellFormedAt m xs i ≡ wellFormed m p
+  unfolding wellFormedAt
+  sound-there xs i p h r = map-there (wellFormed m) xs i p false h r
 
   pub read-there : (v : View) (xs : List (Number × Number)) (i : ℕ) (p : Number × Number) → i < length xs → p ≡ getD xs i p → readAt m v xs i ≡ readPair m v p
   unfolding readAt

@@ -1,22 +1,19 @@
 -- Whatever pairs stand for, the answers of the pair operations stand for the result; the factors of a stage as the code applies them.
 use Prim.Native.Nat.{ℕ, zero, suc, _*_, _/_, _≤_, _<_}
 use mathlib.Core.Path.{_≡_, refl, sym, _∙_, ap, subst}
-use mathlib.Core.Bool.{Bool, true, false, cond}
 use native.Mathlib.Nat.{one-mul, mul-zero, zero-mul}
 use native.Mathlib.Omega.{arith}
-use borrow.Author.Differences.{ints}
-use borrow.Author.Tests.{le-leb, lt-leb}
-use lib.Dec.{leb}
 use lib.IntN.{ℤ, pos}
 use Rattle.integers.specs.declared.Complex.{Complex}
 use Rattle.integers.specs.Complex.{_⊕_, _⊖_, _⊗_, _⊙_, real, quarterTurn}
-use Rattle.integers.proofs.ComplexRing.{complex-same, one-⊗, real-⊗, turn-is}
+use Rattle.integers.proofs.ComplexRing.{one-⊗, real-⊗, turn-is}
 use Rattle.circle.specs.Near.{turned}
 use Rattle.circle.specs.Twiddle.{twiddle}
 use Rattle.scheme.specs.Meaning.{Meaning, Sound, View}
 use Rattle.scheme.specs.Hidden.{StandsPair, WellFormed, readPair}
 use Rattle.scheme.proofs.Standing.{pair-well-formed, carry-pair-sum, carry-pair-difference, carry-pair-multiple, carry-pair-product, carry-pair-turn}
-use Rattle.lines.specs.Lines.{weight, butterfly, sumBelow}
+use Rattle.lines.specs.Lines.{weight}
+use Rattle.lines.proofs.Butterflies.{weight-first-small, weight-small, weight-first, weight-next}
 
 module _ {Number : Type 0} (m : Meaning Number) (sound : Sound m) where
   pub stands-as : (v : View) (x y : Complex) (p : Number × Number) → x ≡ y → StandsPair m v x p → StandsPair m v y p
@@ -53,22 +50,18 @@ module _ {Number : Type 0} (m : Meaning Number) (sound : Sound m) where
 -- ---- the factors
 
 pub weight-one : (q size k : ℕ) (z : Complex) → size ≤ 4 → z ≡ weight q size 0 k ⊗ z
-unfolding weight
-weight-one q size k z h = let e : leb size 4 ≡ true = le-leb size 4 h in rw e (sym (one-⊗ z))
+weight-one q size k z h = sym (one-⊗ z) ∙ ap (λ w. w ⊗ z) (sym (weight-first-small q size k h))
 
 pub weight-scale : (q size k : ℕ) (z : Complex) → 4 < size → pos q ⊙ z ≡ weight q size 0 k ⊗ z
-unfolding weight
-weight-scale q size k z h = let e : leb size 4 ≡ false = lt-leb size 4 h in rw e (sym (real-⊗ (pos q) z))
+weight-scale q size k z h = sym (real-⊗ (pos q) z) ∙ ap (λ w. w ⊗ z) (sym (weight-first q size k h))
 
 pub weight-twiddle : (q size i k : ℕ) → 1 ≤ i → 4 < size → twiddle q (i * k * (256 / size)) ≡ weight q size i k
-unfolding weight
 weight-twiddle q size zero k o h = absurd (omega arith)
-weight-twiddle q size (suc i) k o h = let e : leb size 4 ≡ false = lt-leb size 4 h in rw e refl
+weight-twiddle q size (suc i) k o h = sym (weight-next q size i k h)
 
 weight-exact : (q size i k : ℕ) → 1 ≤ i → size ≤ 4 → turned (i * k * (4 / size)) (real (pos 1)) ≡ weight q size i k
-unfolding weight
 weight-exact q size zero k o h = absurd (omega arith)
-weight-exact q size (suc i) k o h = let e : leb size 4 ≡ true = le-leb size 4 h in rw e refl
+weight-exact q size (suc i) k o h = sym (weight-small q size i k h)
 
 pub weight-none : (q size i k : ℕ) (z : Complex) → 1 ≤ i → size ≤ 4 → i * k * (4 / size) ≡ 0 → z ≡ weight q size i k ⊗ z
 unfolding turned
@@ -81,32 +74,6 @@ unfolding turned
 weight-turn q size i k z o h e =
     let w : quarterTurn (real (pos 1)) ≡ weight q size i k = ap (λ n. turned n (real (pos 1))) (sym e) ∙ weight-exact q size i k o h in
     turn-is z ∙ ap (λ x. x ⊗ z) w
-
--- ---- the butterflies
-
-pub butterfly2-first : (x : ℕ → Complex) → x 0 ⊕ x 1 ≡ butterfly 2 x 0
-unfolding butterfly sumBelow turned
-butterfly2-first x = complex-same (omega (arith, ints)) (omega (arith, ints))
-
-pub butterfly2-second : (x : ℕ → Complex) → x 0 ⊖ x 1 ≡ butterfly 2 x 1
-unfolding butterfly sumBelow turned
-butterfly2-second x = complex-same (omega (arith, ints)) (omega (arith, ints))
-
-pub butterfly4-first : (x : ℕ → Complex) → (x 0 ⊕ x 2) ⊕ (x 1 ⊕ x 3) ≡ butterfly 4 x 0
-unfolding butterfly sumBelow turned
-butterfly4-first x = complex-same (omega (arith, ints)) (omega (arith, ints))
-
-pub butterfly4-second : (x : ℕ → Complex) → (x 0 ⊖ x 2) ⊕ quarterTurn (x 1 ⊖ x 3) ≡ butterfly 4 x 1
-unfolding butterfly sumBelow turned
-butterfly4-second x = complex-same (omega (arith, ints)) (omega (arith, ints))
-
-pub butterfly4-third : (x : ℕ → Complex) → (x 0 ⊕ x 2) ⊖ (x 1 ⊕ x 3) ≡ butterfly 4 x 2
-unfolding butterfly sumBelow turned
-butterfly4-third x = complex-same (omega (arith, ints)) (omega (arith, ints))
-
-pub butterfly4-fourth : (x : ℕ → Complex) → (x 0 ⊖ x 2) ⊖ quarterTurn (x 1 ⊖ x 3) ≡ butterfly 4 x 3
-unfolding butterfly sumBelow turned
-butterfly4-fourth x = complex-same (omega (arith, ints)) (omega (arith, ints))
 
 -- ---- up to size 4 the factors are exact
 

@@ -17,7 +17,7 @@ use Rattle.scheme.proofs.Standing.{pair-itself}
 use Rattle.lines.specs.Lines.{mix}
 use Rattle.lines.specs.Places.{Mixed, Staged, Standing, place}
 use Rattle.lines.proofs.Places.{stage-made}
-use Rattle.stages.specs.Block.{sound, soundAt, readAt, StandsAt}
+use Rattle.stages.specs.Block.{wellFormed, wellFormedAt, readAt, StandsAt}
 use Rattle.stages.specs.Search.{Found}
 use Rattle.stages.specs.Stage.{entries, Making, Shaped, stagesIn, Stage}
 use Rattle.stages.proofs.Blocks.{entry-itself, both, both-true, sound-there, read-there}
@@ -27,16 +27,16 @@ use Rattle.stages.proofs.Shapes.{staging-of, base-two, powered, power-splits, 
 
 module _ {Number : Type 0} (m : Meaning Number) (lawful : Sound m) where
   -- a well-formed pair stands for what is read in it
-  pub stands-read : (v : View) (xs : List (Number × Number)) (i : ℕ) (d : Number × Number) → i < length xs → soundAt m xs i ≡ true → StandsPair m v (readAt m v xs i) (getD xs i d)
+  pub stands-read : (v : View) (xs : List (Number × Number)) (i : ℕ) (d : Number × Number) → i < length xs → wellFormedAt m xs i ≡ true → StandsPair m v (readAt m v xs i) (getD xs i d)
   stands-read v xs i d within ok =
       let p = getD xs i d in
       let e : p ≡ getD xs i p = entry-itself xs i d within in
-      let w : sound m p ≡ true = sym (sound-there m xs i p within e) ∙ ok in
+      let w : wellFormed m p ≡ true = sym (sound-there m xs i p within e) ∙ ok in
       let b = both-true (m .wf (p .0)) (m .wf (p .1)) w in
       subst (λ z. StandsPair m v z p) (sym (read-there m v xs i p within e)) (pair-itself m lawful v p (record { re = b .0; im = b .1 }))
 
   -- a place whose pair stands for something is well formed
-  pub stands-sound : (v : View) (z : Complex) (xs : List (Number × Number)) (i : ℕ) (d : Number × Number) → StandsAt m v z xs i → soundAt m xs i ≡ true
+  pub stands-sound : (v : View) (z : Complex) (xs : List (Number × Number)) (i : ℕ) (d : Number × Number) → StandsAt m v z xs i → wellFormedAt m xs i ≡ true
   stands-sound v z xs i d h =
       let p = getD xs i d in
       let s = h .pair d in
@@ -46,7 +46,7 @@ module _ {Number : Type 0} (m : Meaning Number) (lawful : Sound m) where
   some-entry [] i h = absurd (omega arith)
   some-entry (x ∷ xs) i h = x
 
-  module _ (q r t groups : ℕ) (before after : List (Number × Number)) (one : 1 < r) (long : groups * r ^ suc t ≤ length before) (same : length after ≡ length before) (formed : (k : ℕ) → k < groups * r ^ suc t → soundAt m before k ≡ true) (making : Making m q r t groups (groups * r ^ t) before after) where
+  module _ (q r t groups : ℕ) (before after : List (Number × Number)) (one : 1 < r) (long : groups * r ^ suc t ≤ length before) (same : length after ≡ length before) (formed : (k : ℕ) → k < groups * r ^ suc t → wellFormedAt m before k ≡ true) (making : Making m q r t groups (groups * r ^ t) before after) where
     pub read-mixed : (v : View) (g k l : ℕ) → g < groups → k < r ^ t → l < r → StandsAt m v (mix q r t k (λ i. readAt m v before (place r t g k i)) l) after (place r t g k l)
     read-mixed v g k l hg hk hl =
         record {
@@ -59,7 +59,7 @@ module _ {Number : Type 0} (m : Meaning Number) (lawful : Sound m) where
         }
 
     -- every place belongs to a butterfly
-    pub sound-after : (i : ℕ) → i < groups * r ^ suc t → soundAt m after i ≡ true
+    pub sound-after : (i : ℕ) → i < groups * r ^ suc t → wellFormedAt m after i ≡ true
     unfolding place
     sound-after i h =
         let some : 0 < r ^ t = power-some r t (omega arith) in
@@ -76,7 +76,7 @@ module _ {Number : Type 0} (m : Meaning Number) (lawful : Sound m) where
         let e : place r t g k l ≡ i = ap (λ x. g * r ^ suc t + x) ej ∙ div-add-mod' i (r ^ suc t) in
         let d = some-entry before i (omega arith) in
         let z = mix q r t k (λ n. readAt m [] before (place r t g k n)) l in
-        subst (λ x. soundAt m after x ≡ true) e (stands-sound [] z after (place r t g k l) d (read-mixed [] g k l hg hk hl))
+        subst (λ x. wellFormedAt m after x ≡ true) e (stands-sound [] z after (place r t g k l) d (read-mixed [] g k l hg hk hl))
 
   pub finished : (p : Plan) (t radix span groups q : ℕ) (before after : List (Number × Number)) → q ≡ p .«twiddle_scale» → p .size ≤ length before → Shaped p t (Some (radix, span)) → Found m before (p .size) None → groups ≡ p .size / (radix * span) → ((n : ℕ) → span ≡ radix ^ n → Making m q radix n groups (groups * span) before after) → length after ≡ length before → Stage m p t before after
   finished p t radix span groups q before after eq long shape formed eg making same =
@@ -119,7 +119,7 @@ module _ {Number : Type 0} (m : Meaning Number) (lawful : Sound m) where
       long' : r ^ u * r ^ suc t ≤ length before
       long' = omega (arith, size-as)
 
-      formed' : (k : ℕ) → k < r ^ u * r ^ suc t → soundAt m before k ≡ true
+      formed' : (k : ℕ) → k < r ^ u * r ^ suc t → wellFormedAt m before k ≡ true
       formed' k h = formed k (omega (arith, size-as))
 
       mixed : (v : View) (d : Number × Number) → Staged (StandsPair m v) (p .«twiddle_scale») r t u (entries d before) (entries d after)

@@ -5,3 +5,4 @@ pub mod Finishing
 pub mod Making
 pub mod Reversal
 pub mod Shapes
+pub mod Summing

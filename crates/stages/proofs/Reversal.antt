@@ -1,19 +1,13 @@
 -- Digits reversed, from the last digit on.
 use Prim.Native.Nat.{ℕ, zero, suc, _+_, _-_, _*_, _/_, _%_, _^_, _≤_, _<_}
 use mathlib.Core.Path.{_≡_, refl, sym, _∙_, ap}
-use mathlib.Core.Bool.{true}
-use mathlib.Core.List.{List, [], _∷_}
-use native.Mathlib.Nat.{pow-zero, pow-suc, suc-mul, mul-zero, mul-suc, mod-lt, mul-le-mul-right, mul-div-le, mul-div-cancel, pow-le-pow-right}
+use native.Mathlib.Nat.{pow-zero, pow-suc, suc-mul, mul-zero, mod-lt, mul-le-mul-right, mul-div-le, mul-div-cancel, one-le-pow}
 use native.Mathlib.Omega.{arith}
-use Rattle.plan.specs.declared.method.Method.the-variants.{Radix2, Radix4}
-use Rattle.plan.specs.Methods.{sizes, sized}
-use Rattle.plan.proofs.Powers.{carried}
-use Rattle.lines.specs.Lines.{divisions, stagesOf}
 use Rattle.lines.specs.Places.{reversed}
 
 -- a power is at least 1
 pub power-some : (r u : ℕ) → 0 < r → 0 < r ^ u
-power-some r u h = let a = pow-le-pow-right {n = r} h {i = 0} {j = u} (omega arith) in omega (arith, a, pow-zero r)
+power-some r u h = one-le-pow u r h
 
 -- a size of 1 has no digits
 pub no-digits : (r size n u : ℕ) → 1 < r → size ≤ 1 → size ≡ r ^ u → 0 ≡ reversed r u n
@@ -40,12 +34,3 @@ digits-below r size n (suc p) rest h s e less =
     let b : suc (n % r) * suc p ≤ r * suc p = mul-le-mul-right (suc p) a in
     let c : r * suc p ≤ size = rw e (mul-div-le size r) in
     omega (arith, suc-mul (n % r) (suc p))
-
--- the sizes are powers, with as many digits as there are stages
-pub stages2 : (m : ℕ) → sized Radix2 m ≡ true → m ≡ 2 ^ stagesOf Radix2 m
-unfolding divisions
-stages2 = carried (λ m. m ≡ 2 ^ stagesOf Radix2 m) (sizes Radix2) (refl, (refl, (refl, (refl, (refl, (refl, (refl, (refl, (refl, tt)))))))))
-
-pub stages4 : (m : ℕ) → sized Radix4 m ≡ true → m ≡ 4 ^ stagesOf Radix4 m
-unfolding divisions
-stages4 = carried (λ m. m ≡ 4 ^ stagesOf Radix4 m) (sizes Radix4) (refl, (refl, (refl, (refl, (refl, tt)))))

@@ -11,12 +11,12 @@ use Rattle.scheme.specs.Meaning.{Meaning, View}
 use Rattle.scheme.specs.Hidden.{StandsPair, readPair}
 
 -- both components of a pair are well formed
-abbrev pub sound : {Number : Type 0} → Meaning Number → Number × Number → Bool
-sound m p = m .wf (p .0) && m .wf (p .1)
+abbrev pub wellFormed : {Number : Type 0} → Meaning Number → Number × Number → Bool
+wellFormed m p = m .wf (p .0) && m .wf (p .1)
 
 -- place i of the block is there and holds a well-formed pair
-unfoldable pub soundAt : {Number : Type 0} → Meaning Number → List (Number × Number) → ℕ → Bool
-soundAt m xs i = getD (map (sound m) xs) i false
+unfoldable pub wellFormedAt : {Number : Type 0} → Meaning Number → List (Number × Number) → ℕ → Bool
+wellFormedAt m xs i = getD (map (wellFormed m) xs) i false
 
 -- what is read at place i of the block in the view v
 unfoldable pub readAt : {Number : Type 0} → Meaning Number → View → List (Number × Number) → ℕ → Complex

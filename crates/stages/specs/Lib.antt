@@ -1,4 +1,5 @@
 pub mod Block
+pub mod Direct
 pub mod Mixing
 pub mod Place
 pub mod Search

@@ -1,7 +1,6 @@
 -- What a butterfly and a stage do to a block, in every view.
 use Prim.Native.Nat.{ℕ, suc, _+_, _-_, _*_, _^_, _≤_, _<_}
 use mathlib.Core.Path.{_≡_}
-use mathlib.Core.Bool.{true}
 use mathlib.Core.List.{List}
 use lib.ListN.{length, getD}
 use Rattle.std.specs.declared.option.Option.{Option}
@@ -17,7 +16,7 @@ use Rattle.scheme.specs.Meaning.{Meaning, View}
 use Rattle.scheme.specs.Hidden.{StandsPair}
 use Rattle.lines.specs.Lines.{mix, stagesOf}
 use Rattle.lines.specs.Places.{Crossed, Mixed, Staged, Standing, place}
-use Rattle.stages.specs.Block.{readAt, soundAt, StandsAt}
+use Rattle.stages.specs.Block.{readAt, StandsAt}
 use Rattle.stages.specs.Search.{Found}
 
 -- the pairs of a block, place by place; d past its end

@@ -2,10 +2,12 @@
 // one direct line.
 mod block;
 mod butterfly;
+mod direct;
 mod place;
+mod radix;
 mod search;
-mod stage;
 
+pub use direct::direct_line;
 pub use place::place_of;
+pub use radix::stage;
 pub use search::first_malformed;
-pub use stage::stage;

@@ -2,23 +2,23 @@
 ghost use mathlib.Core.Path.{_≡_};
 ghost use Prim.Native.Nat.{_<_};
 ghost use lib.ListN.{length};
-ghost use Rattle.stages.specs.Block.{soundAt};
+ghost use Rattle.stages.specs.Block.{wellFormedAt};
 ghost use Rattle.stages.specs.Search.{Found};
 use crate::block;
 use scheme::Scheme;
 
 // Whether the place is there and holds a well-formed pair.
-fn sound_at<S: Scheme>(s: &mut S, block: &[(S::Number, S::Number)], i: usize) -> bool
-    ensures value { λ r. ⌜ r ≡ soundAt (meaning (now (s .entry))) (now (block .entry)) i ⌝ }
+fn well_formed_at<S: Scheme>(s: &mut S, block: &[(S::Number, S::Number)], i: usize) -> bool
+    ensures value { λ r. ⌜ r ≡ wellFormedAt (meaning (now (s .entry))) (now (block .entry)) i ⌝ }
     ensures frame { λ _. ⌜ meaning (now (s .exit)) ≡ meaning (now (s .entry)) ⌝ }
 {
     if i >= block.len() {
         return false;
     }
     let (re, im) = block::at(block, i);
-    let re_sound = s.test(re);
-    let im_sound = s.test(im);
-    re_sound && im_sound
+    let re_formed = s.test(re);
+    let im_formed = s.test(im);
+    re_formed && im_formed
 }
 
 // The first among the first `count` places that holds no well-formed pair; a place past the end of the block holds none. None where
@@ -32,7 +32,7 @@ pub fn first_malformed<S: Scheme>(
     ensures frame { λ _. ⌜ meaning (now (s .exit)) ≡ meaning (now (s .entry)) ⌝ }
 {
     for i in 0..count {
-        if !sound_at(s, block, i) {
+        if !well_formed_at(s, block, i) {
             return Some(i);
         }
     }

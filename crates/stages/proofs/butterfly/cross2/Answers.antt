@@ -1,8 +1,9 @@
 use Prim.Native.Nat.{ℕ}
-use mathlib.Core.Path.{_≡_, _∙_}
+use mathlib.Core.Path.{_≡_, sym, _∙_}
 use Rattle.integers.specs.Complex.{_⊕_, _⊖_}
 use Rattle.lines.specs.Lines.{butterfly}
-use Rattle.stages.proofs.Carrying.{Subtracts, stands-as, carried-sum, carried-difference, butterfly2-first, butterfly2-second}
+use Rattle.lines.proofs.Butterflies.{butterfly-sum, butterfly-difference}
+use Rattle.stages.proofs.Carrying.{Subtracts, stands-as, carried-sum, carried-difference}
 use Rattle.stages.proofs.butterfly.cross2.Needs as need
 
 pub returns : need.returns
@@ -17,8 +18,8 @@ returns g c =
       value =
           λ v z i.
           record {
-            first = stands-as m sound v (z 0 ⊕ z 1) (butterfly 2 z 0) (c .sum-sum .result) (butterfly2-first z) (carried-sum m sound a b (c .sum-sum .result) (c .sum-sum .ensures .value) v (z 0) (z 1) (i .first) (i .second));
-            second = stands-as m sound v (z 0 ⊖ z 1) (butterfly 2 z 1) (c .difference-difference .result) (butterfly2-second z) (carried-difference m sound a b (c .difference-difference .result) h v (z 0) (z 1) (i .first) (i .second));
+            first = stands-as m sound v (z 0 ⊕ z 1) (butterfly 2 z 0) (c .sum-sum .result) (sym (butterfly-sum z)) (carried-sum m sound a b (c .sum-sum .result) (c .sum-sum .ensures .value) v (z 0) (z 1) (i .first) (i .second));
+            second = stands-as m sound v (z 0 ⊖ z 1) (butterfly 2 z 1) (c .difference-difference .result) (sym (butterfly-difference z)) (carried-difference m sound a b (c .difference-difference .result) h v (z 0) (z 1) (i .first) (i .second));
           };
       frame = c .difference-difference .ensures .frame ∙ f;
     }

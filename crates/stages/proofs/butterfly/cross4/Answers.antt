@@ -1,8 +1,9 @@
 use Prim.Native.Nat.{ℕ}
-use mathlib.Core.Path.{_≡_, _∙_}
+use mathlib.Core.Path.{_≡_, sym, _∙_}
 use Rattle.integers.specs.Complex.{_⊕_, _⊖_, quarterTurn}
 use Rattle.lines.specs.Lines.{butterfly}
-use Rattle.stages.proofs.Carrying.{Adds, Subtracts, Turns, stands-as, carried-sum, carried-difference, carried-turn, butterfly4-first, butterfly4-second, butterfly4-third, butterfly4-fourth}
+use Rattle.lines.proofs.Butterflies.{butterfly-first, butterfly-second, butterfly-third, butterfly-fourth}
+use Rattle.stages.proofs.Carrying.{Adds, Subtracts, Turns, stands-as, carried-sum, carried-difference, carried-turn}
 use Rattle.stages.proofs.butterfly.cross4.Needs as need
 
 pub returns : need.returns
@@ -47,10 +48,10 @@ returns g c =
           let less = carried-difference m sound a cc e h2 v (z 0) (z 2) (i .first) (i .third) in
           let turned = carried-turn m sound o t h4 v (z 1 ⊖ z 3) (carried-difference m sound b d o h3 v (z 1) (z 3) (i .second) (i .fourth)) in
           record {
-            first = stands-as m sound v ((z 0 ⊕ z 2) ⊕ (z 1 ⊕ z 3)) (butterfly 4 z 0) w (butterfly4-first z) (carried-sum m sound p q w h5 v (z 0 ⊕ z 2) (z 1 ⊕ z 3) even odd);
-            second = stands-as m sound v ((z 0 ⊖ z 2) ⊕ quarterTurn (z 1 ⊖ z 3)) (butterfly 4 z 1) x (butterfly4-second z) (carried-sum m sound e t x h6 v (z 0 ⊖ z 2) (quarterTurn (z 1 ⊖ z 3)) less turned);
-            third = stands-as m sound v ((z 0 ⊕ z 2) ⊖ (z 1 ⊕ z 3)) (butterfly 4 z 2) y (butterfly4-third z) (carried-difference m sound p q y h7 v (z 0 ⊕ z 2) (z 1 ⊕ z 3) even odd);
-            fourth = stands-as m sound v ((z 0 ⊖ z 2) ⊖ quarterTurn (z 1 ⊖ z 3)) (butterfly 4 z 3) u (butterfly4-fourth z) (carried-difference m sound e t u h8 v (z 0 ⊖ z 2) (quarterTurn (z 1 ⊖ z 3)) less turned);
+            first = stands-as m sound v ((z 0 ⊕ z 2) ⊕ (z 1 ⊕ z 3)) (butterfly 4 z 0) w (sym (butterfly-first z)) (carried-sum m sound p q w h5 v (z 0 ⊕ z 2) (z 1 ⊕ z 3) even odd);
+            second = stands-as m sound v ((z 0 ⊖ z 2) ⊕ quarterTurn (z 1 ⊖ z 3)) (butterfly 4 z 1) x (sym (butterfly-second z)) (carried-sum m sound e t x h6 v (z 0 ⊖ z 2) (quarterTurn (z 1 ⊖ z 3)) less turned);
+            third = stands-as m sound v ((z 0 ⊕ z 2) ⊖ (z 1 ⊕ z 3)) (butterfly 4 z 2) y (sym (butterfly-third z)) (carried-difference m sound p q y h7 v (z 0 ⊕ z 2) (z 1 ⊕ z 3) even odd);
+            fourth = stands-as m sound v ((z 0 ⊖ z 2) ⊖ quarterTurn (z 1 ⊖ z 3)) (butterfly 4 z 3) u (sym (butterfly-fourth z)) (carried-difference m sound e t u h8 v (z 0 ⊖ z 2) (quarterTurn (z 1 ⊖ z 3)) less turned);
           };
       frame = c .difference-fourth .ensures .frame ∙ f7;
     }

@@ -1,4 +1,4 @@
-// One stage in place.
+// The stages of radix 2 and 4, in place.
 ghost use mathlib.Core.Path.{_≡_};
 ghost use Prim.Native.Nat.{ℕ, _+_, _*_, _^_, _<_, _≤_};
 ghost use mathlib.Core.Logic.{_⊎_};
@@ -107,7 +107,8 @@ fn cross_all<S: Scheme>(
     ensures made { λ _. ⌜ ((t : ℕ) → span ≡ radix ^ t → Making (meaning (now (s .entry))) scale radix t groups (groups * span) (now (block .entry)) (now (block .exit))) ⌝ }
     ensures frame { λ _. ⌜ meaning (now (s .exit)) ≡ meaning (now (s .entry)) ⌝ }
 {
-    for n in 0..groups * span {
+    let count = groups * span;
+    for n in 0..count {
         cross(s, radix, scale, span, n / span, n % span, block);
     }
 }

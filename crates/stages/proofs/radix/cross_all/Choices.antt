@@ -1,7 +1,7 @@
 use Prim.Native.Nat.{ℕ, _^_}
 use mathlib.Core.Path.{_≡_}
 use Rattle.stages.specs.Stage.{Making}
-use Rattle.stages.proofs.stage.cross_all.Given as given
+use Rattle.stages.proofs.radix.cross_all.Given as given
 
 abbrev pub Inv-loop-n : given.InvT-loop-n
 Inv-loop-n g l =

@@ -11,8 +11,8 @@ use Rattle.stages.specs.Search.{Found}
 use Rattle.stages.specs.Stage.{Shaped, Making}
 use Rattle.stages.proofs.Finishing.{finished}
 use Rattle.stages.proofs.Shapes.{base-either, size-step}
-use Rattle.stages.proofs.stage.stage.Given as given
-use Rattle.stages.proofs.stage.stage.Needs as need
+use Rattle.stages.proofs.radix.stage.Given as given
+use Rattle.stages.proofs.radix.stage.Needs as need
 
 -- r · r^t lies within the size
 steps : (g : given.Over) (c : need.In-rest-first-malformed g) → (0 < c .in-Some .span) × (0 < c .in-Some .radix * c .in-Some .span) × (c .in-Some .radix * c .in-Some .span ≤ 256)
@@ -56,7 +56,7 @@ returns g c =
     let after = c .cross-all .last .block in
     let formed : Found m before (p .size) None = subst (λ n. Found m before n None) z (c .in-rest-first-malformed .ensures tt .value) in
     let made : (t : ℕ) → span ≡ r ^ t → Making m q r t groups (groups * span) before after =
-        subst (λ w. (t : ℕ) → span ≡ r ^ t → Making w q r t groups (groups * span) before after) f (c .cross-all .ensures .made)
+    subst (λ w. (t : ℕ) → span ≡ r ^ t → Making w q r t groups (groups * span) before after) f (c .cross-all .ensures .made)
     in
     let long : p .size ≤ length before = omega arith in
     let same : length after ≡ length before = c .cross-all .kept .block in

@@ -6,10 +6,10 @@ use lib.ListN.{length}
 use Rattle.stages.specs.Stage.{CrossedAt, Making}
 use Rattle.stages.proofs.Making.{making-start, making-step}
 use Rattle.stages.proofs.Shapes.{count-small, group-below, group-fits}
-use Rattle.stages.proofs.stage.cross_all.Needs as need
+use Rattle.stages.proofs.radix.cross_all.Needs as need
 
-pub mul-n·end : need.mul-n·end
-mul-n·end g c =
+pub mul-count : need.mul-count
+mul-count g c =
     let one : 1 ≤ c .args .radix = omega (arith, c .pre .radix) in
     let h = count-small (c .args .groups) (c .args .radix) (c .args .span) 256 one (c .pre .span .1) in
     omega arith
@@ -34,18 +34,19 @@ loop-n-again g c =
     let span = c .args .span in
     let r = c .args .radix in
     let x : CrossedAt m (c .args .scale) r span (n / span) (n % span) (c .loop-n .block) (c .cross .last .block) =
-        subst (λ w. CrossedAt w (c .args .scale) r span (n / span) (n % span) (c .loop-n .block) (c .cross .last .block)) f (c .cross .ensures .crossed)
+    subst (λ w. CrossedAt w (c .args .scale) r span (n / span) (n % span) (c .loop-n .block) (c .cross .last .block)) f (c .cross .ensures .crossed)
     in
     let small : n % span < span = mod-lt n (c .pre .span .0) in
-    let parts : n ≡ n / span * span + n % span = sym (div-add-mod' n span) in
-    (c .cross .ensures .frame ∙ f,
-     λ t e.
-     making-step m (c .args .scale) r t (c .args .groups) n (n / span) (n % span) (c .args .block .now) (c .loop-n .block) (c .cross .last .block)
-     (group-below n (c .args .groups) span (c .pre .span .0) (c .loop-n-test .taken))
-     (subst (λ y. n % span < y) e small)
-     (parts ∙ ap (λ y. n / span * y + n % span) e)
-     (c .loop-n .inv .1 t e)
-     (x t e))
+    let parts : n ≡ n / span * span + n % span = sym (div-add-mod' n span) in (
+      c .cross .ensures .frame ∙ f,
+      λ t e.
+          making-step m (c .args .scale) r t (c .args .groups) n (n / span) (n % span) (c .args .block .now) (c .loop-n .block) (c .cross .last .block)
+          (group-below n (c .args .groups) span (c .pre .span .0) (c .loop-n-test .taken))
+          (subst (λ y. n % span < y) e small)
+          (parts ∙ ap (λ y. n / span * y + n % span) e)
+          (c .loop-n .inv .1 t e)
+          (x t e),
+    )
 
 pub returns : need.returns
 returns g c =

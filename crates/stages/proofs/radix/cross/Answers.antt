@@ -1,7 +1,7 @@
 use mathlib.Core.Path.{_≡_, sym, subst}
 use native.Mathlib.Omega.{arith}
 use Rattle.stages.specs.Stage.{CrossedAt}
-use Rattle.stages.proofs.stage.cross.Needs as need
+use Rattle.stages.proofs.radix.cross.Needs as need
 
 pub returns-then-radix-eq2 : need.returns-then-radix-eq2
 returns-then-radix-eq2 g c =

@@ -4,7 +4,7 @@ use native.Mathlib.Omega.{arith}
 use lib.ListN.{length, set}
 use Rattle.stages.specs.Stage.{CrossedAt}
 use Rattle.stages.proofs.Crossing.{crossed4}
-use Rattle.stages.proofs.stage.cross_four.Needs as need
+use Rattle.stages.proofs.radix.cross_four.Needs as need
 
 pub returns : need.returns
 returns g c =

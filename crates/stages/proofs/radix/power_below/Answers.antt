@@ -4,7 +4,7 @@ use native.Mathlib.Nat.{pow-zero, pow-suc, mul-le-mul}
 use native.Mathlib.Numerals.{add-one}
 use native.Mathlib.Omega.{arith}
 use Rattle.stages.proofs.Shapes.{power-passes}
-use Rattle.stages.proofs.stage.power_below.Needs as need
+use Rattle.stages.proofs.radix.power_below.Needs as need
 
 small : (c : need.Else-power-size) → c .loop-i .power * c .args .radix ≤ 256 * 4
 small c = mul-le-mul {n₁ = c .loop-i .power} {m₁ = c .args .radix} {n₂ = 256} {m₂ = 4} (omega arith) (omega arith)

@@ -5,7 +5,7 @@ use lib.ListN.{length, set}
 use Rattle.stages.specs.Stage.{CrossedAt}
 use Rattle.stages.proofs.Making.{exact-offset}
 use Rattle.stages.proofs.Crossing.{crossed2}
-use Rattle.stages.proofs.stage.cross_two.Needs as need
+use Rattle.stages.proofs.radix.cross_two.Needs as need
 
 pub mix2-a-requires : need.mix2-a-requires
 mix2-a-requires g c κs = record { line = (omega arith, omega arith); exact = exact-offset (c .args .offset) (c .args .span) (c .pre .span .0) }
