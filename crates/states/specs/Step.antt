@@ -23,7 +23,7 @@ use Rattle.lines.specs.Places.{placeOf, Staged}
 use Rattle.lines.specs.Laws.{meant}
 use Rattle.scheme.specs.Meaning.{Meaning, View}
 use Rattle.scheme.specs.Hidden.{StandsPair}
-use Rattle.stages.specs.Block.{sound, soundAt, readAt}
+use Rattle.stages.specs.Block.{wellFormed, wellFormedAt, readAt}
 use Rattle.stages.specs.Stage.{entries}
 use Rattle.states.specs.declared.Kept.{Kept}
 use Rattle.states.specs.declared.State.{State}
@@ -41,7 +41,7 @@ Pairs N = List (N × N)
 -- the first of the places from i on, k of them, that holds no well-formed pair
 abbrev pub malformedFrom : {N : Type 0} → Meaning N → Pairs N → ℕ → ℕ → Option ℕ
 malformedFrom m bl i zero = None
-malformedFrom m bl i (suc k) = let later = malformedFrom m bl (suc i) k in cond (soundAt m bl i) later (Some i)
+malformedFrom m bl i (suc k) = let later = malformedFrom m bl (suc i) k in cond (wellFormedAt m bl i) later (Some i)
 
 -- the first of the places below n that holds no well-formed pair
 unfoldable pub firstMalformed : {N : Type 0} → Meaning N → Pairs N → ℕ → Option ℕ
@@ -72,14 +72,14 @@ planDeclined m bl k size q1 q2 = first (refused k size q1 q2) (unless (leb size 
 -- why a line is declined for what the block holds: a direct line reads all places, a radix line one
 abbrev pub lineMalformed : {N : Type 0} → Meaning N → Method → Pairs N → ℕ → ℕ → Option Refusal
 lineMalformed m Direct bl size k = malformed (firstMalformed m bl size)
-lineMalformed m Radix2 bl size k = unless (soundAt m bl k) (Malformed k) None
-lineMalformed m Radix4 bl size k = unless (soundAt m bl k) (Malformed k) None
+lineMalformed m Radix2 bl size k = unless (wellFormedAt m bl k) (Malformed k) None
+lineMalformed m Radix4 bl size k = unless (wellFormedAt m bl k) (Malformed k) None
 
 -- why a call is declined in a state, over a block: the earliest refusal that applies, or none
 abbrev pub declined : {N : Type 0} → Meaning N → State → Pairs N → Call N → Option Refusal
 declined m st bl (PlanCall k size q1 q2) = planDeclined m bl k size q1 q2
 declined m Idle bl (Load n x) = Some Moment
-declined m (Filling kept count) bl (Load n x) = unless (leb n count && ltb n (kept .plan .size)) Place (unless (eqb (m .modulus) (kept .modulus)) Strange (unless (sound m x) (Malformed n) None))
+declined m (Filling kept count) bl (Load n x) = unless (leb n count && ltb n (kept .plan .size)) Place (unless (eqb (m .modulus) (kept .modulus)) Strange (unless (wellFormed m x) (Malformed n) None))
 declined m (Running kept t) bl (Load n x) = Some Moment
 declined m (Finished kept) bl (Load n x) = Some Moment
 declined m Idle bl Begin = Some Moment
@@ -106,7 +106,7 @@ progress kept t = cond (eqb t (stagesFor (kept .plan))) (Finished kept) (Running
 -- a stage: in every view every butterfly of it is mixed; the places of the plan stay well formed, the places past them and the length stay
 pub record StageDone {N : Type 0} (m : Meaning N) (p : Plan) (t : ℕ) (before after : Pairs N) : Type 0 where
   pub staged : (v : View) (d : N × N) → Staged (StandsPair m v) (p .«twiddle_scale») (base (p .method)) t (stagesFor p - suc t) (entries d before) (entries d after)
-  pub formed : (i : ℕ) → i < p .size → soundAt m after i ≡ true
+  pub formed : (i : ℕ) → i < p .size → wellFormedAt m after i ≡ true
   pub past : (d : N × N) (i : ℕ) → p .size ≤ i → entries d after i ≡ entries d before i
   pub long : length after ≡ length before
 
