@@ -1,0 +1,5 @@
+pub mod Searching
+pub mod Staging
+pub mod Counting
+pub mod Planning
+pub mod Stepping
