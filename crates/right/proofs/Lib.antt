@@ -1,2 +1,4 @@
 pub mod Agreeing
 pub mod Tied
+pub mod Loading
+pub mod Steps

@@ -98,3 +98,60 @@ module _ {N : Type 0} (m : Meaning N) where
       let p : 4 ^ u ≡ size = size4 size h in
       finished (StandsPair m []) q 4 u s (entries d bl) (subst (λ (v : ℕ). Standing (StandsPair m []) q 4 u v s (entries d bl)) e (held d)) n
       (subst (λ (x : ℕ). n < x) (sym p) l)
+
+-- A kept plan is the one in force, its lines fit the modulus, and the block has a pair for every place.
+pub record InForce {N : Type 0} (m : Meaning N) (force : Option Numbers) (p : Plan) (bl : Pairs N) : Type 0 where
+  pub plan : force ≡ Some (numbersOf p)
+  pub fits : leastModulus (meaningOf p) ≤ m .modulus
+  pub long : p .size ≤ length bl
+
+-- The first `count` samples are loaded, and stand at their places.
+pub record Filled {N : Type 0} (m : Meaning N) (p : Plan) (given : ℕ → Option Complex) (count : ℕ) (bl : Pairs N) : Type 0 where
+  pub most : count ≤ p .size
+  pub samples : ℕ → Complex
+  pub loads : (n : ℕ) → n < count → given n ≡ Some (samples n)
+  pub placed : (n : ℕ) → n < count → (d : N × N) → StandsPair m [] (samples n) (entries d bl (placeOf (p .method) (p .size) n))
+
+-- All samples are loaded, and the block holds what t stages make of them.
+pub record Ran {N : Type 0} (m : Meaning N) (p : Plan) (given : ℕ → Option Complex) (t : ℕ) (bl : Pairs N) : Type 0 where
+  pub samples : ℕ → Complex
+  pub loads : (n : ℕ) → n < p .size → given n ≡ Some (samples n)
+  pub held : Held m (p .method) (p .size) (p .«twiddle_scale») t samples bl
+
+-- The state and the block are tied to the plan in force and the samples given.
+abbrev pub Tied : {N : Type 0} → Meaning N → Option Numbers → (ℕ → Option Complex) → State → Pairs N → Type 0
+Tied m force given Idle bl = Unit {0}
+Tied m force given (Filling kept count) bl = InForce m force (kept .plan) bl × Filled m (kept .plan) given count bl
+Tied m force given (Running kept t) bl = InForce m force (kept .plan) bl × Ran m (kept .plan) given t bl × (t < stagesFor (kept .plan))
+Tied m force given (Finished kept) bl = InForce m force (kept .plan) bl × Ran m (kept .plan) given (stagesFor (kept .plan)) bl
+
+-- a block as long is as good for the plan in force
+pub force-long : {N : Type 0} (m : Meaning N) (force : Option Numbers) (p : Plan) (bl after : Pairs N) → length after ≡ length bl → InForce m force p bl → InForce m force p after
+force-long m force p bl after e h = record { plan = h .plan; fits = h .fits; long = subst (λ (n : ℕ). p .size ≤ n) (sym e) (h .long) }
+
+module _ {N : Type 0} (m : Meaning N) (force : Option Numbers) (given : ℕ → Option Complex) where
+  -- the state after t stages is tied, whether or not more are due
+  pub progress-tied : (kept : Kept) (t : ℕ) (bl : Pairs N) → t ≤ stagesFor (kept .plan) → InForce m force (kept .plan) bl → Ran m (kept .plan) given t bl → Tied m force given (progress kept t) bl
+  progress-tied kept t bl l f r = go (eqb t (stagesFor (kept .plan))) refl
+    where
+      go : (e : Bool) → eqb t (stagesFor (kept .plan)) ≡ e → Tied m force given (cond e (Finished kept) (Running kept t)) bl
+      go true e = (f, subst (λ (u : ℕ). Ran m (kept .plan) given u bl) (eqb-true t (stagesFor (kept .plan)) e) r)
+      go false e = let ne : ¬ (t ≡ stagesFor (kept .plan)) = eqb-false t (stagesFor (kept .plan)) e in (f, r, omega arith)
+
+  -- where all samples are loaded
+  pub filled-ran : (p : Plan) (count : ℕ) (bl : Pairs N) → p .size ≤ count → Filled m p given count bl → Ran m p given 0 bl
+  filled-ran p count bl l h =
+      record {
+        samples = h .samples;
+        loads = λ n b. h .loads n (omega arith);
+        held = held-first m (p .method) (p .size) (p .«twiddle_scale») (h .samples) bl (p .«size_lawful») (λ n b. h .placed n (omega arith));
+      }
+
+  -- after a stage
+  pub ran-next : (p : Plan) (t : ℕ) (bl after : Pairs N) → t < stagesFor p → ((d : N × N) → Staged (StandsPair m []) (p .«twiddle_scale») (base (p .method)) t (stagesFor p - suc t) (entries d bl) (entries d after)) → Ran m p given t bl → Ran m p given (suc t) after
+  ran-next p t bl after l staged h =
+      record { samples = h .samples; loads = h .loads; held = held-next m (p .method) (p .size) (p .«twiddle_scale») t (h .samples) bl after l (h .held) staged }
+
+-- with no sample loaded
+pub filled-none : {N : Type 0} (m : Meaning N) (given : ℕ → Option Complex) (p : Plan) (zero-at : Complex) (bl : Pairs N) → Filled m p given 0 bl
+filled-none m given p z bl = record { most = omega arith; samples = λ n. z; loads = λ n l. absurd (omega arith); placed = λ n l. absurd (omega arith) }
