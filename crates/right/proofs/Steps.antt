@@ -81,12 +81,14 @@ module _ {N : Type 0} (m : Meaning N) (ok : Sound m) (force : Option Numbers) (g
       let same : _≡_ {A = Numbers} (record { method = k; size = size; sample = q1; twiddle = q2 }) (numbersOf p) = cc in
       let l : size ≤ length bl = leb-true size (length bl) long in
       let f : leastModulus (figuresOf k size q1 q2) ≤ m .modulus = leb-true _ _ fits in
-      becomes (PlanCall k size q1 q2) Done (Filling (record { plan = p; modulus = m .modulus }) 0) bl a st' bl' (h .becomes)
-      (record {
+      becomes (PlanCall k size q1 q2) Done (Filling (record { plan = p; modulus = m .modulus }) 0) bl a st' bl' (h .becomes) (
+        record {
           plan = ap {B = Option Numbers} Some same;
           fits = subst (λ (w : Numbers). leastModulus (figuresOf (w .method) (w .size) (w .sample) (w .twiddle)) ≤ m .modulus) same f;
           long = subst (λ (w : Numbers). w .size ≤ length bl) same l;
-        }, filled-none m (λ n. None) p nothing bl)
+        },
+        filled-none m (λ n. None) p nothing bl,
+      )
 
   -- an accepted load
   load-kept : (kept : Kept) (count n : ℕ) (x : N × N) (bl : Pairs N) (a : Result Reply Refusal) (st' : State) (bl' : Pairs N) → declined m (Filling kept count) bl (Load n x) ≡ None → Accepted m (Filling kept count) bl (Load n x) a st' bl' → Tied m force given (Filling kept count) bl → After (Load n x) a st' bl'
@@ -98,9 +100,10 @@ module _ {N : Type 0} (m : Meaning N) (ok : Sound m) (force : Option Numbers) (g
       let (re, im) = both-true (m .wf (x .0)) (m .wf (x .1)) formed in
       let w : WellFormed m x = record { re = re; im = im } in
       let i : ℕ = placeOf (kept .plan .method) (kept .plan .size) n in
-      becomes (Load n x) Done (Filling kept (cond (eqb n count) (suc count) count)) (set bl i x) a st' bl' h
-      (force-long m force (kept .plan) bl (set bl i x) (length-set bl i x) f,
-        filled-more m ok (kept .plan) given n count x bl (ltb-true n (kept .plan .size) below) (f .long) w t)
+      becomes (Load n x) Done (Filling kept (cond (eqb n count) (suc count) count)) (set bl i x) a st' bl' h (
+        force-long m force (kept .plan) bl (set bl i x) (length-set bl i x) f,
+        filled-more m ok (kept .plan) given n count x bl (ltb-true n (kept .plan .size) below) (f .long) w t,
+      )
 
   -- an accepted begin
   begin-kept : (kept : Kept) (count : ℕ) (bl : Pairs N) (a : Result Reply Refusal) (st' : State) (bl' : Pairs N) → declined m (Filling kept count) bl Begin ≡ None → Accepted m (Filling kept count) bl Begin a st' bl' → Tied m force given (Filling kept count) bl → After Begin a st' bl'
@@ -114,7 +117,7 @@ module _ {N : Type 0} (m : Meaning N) (ok : Sound m) (force : Option Numbers) (g
   advance-kept kept t bl a st' bl' h (f, r, due) =
       becomes Advance Done (progress kept (suc t)) bl' a st' bl' (h .becomes)
       (progress-tied m force given kept (suc t) bl' (omega arith) (force-long m force (kept .plan) bl bl' (h .stage .long) f)
-        (ran-next m force given (kept .plan) t bl bl' due (h .stage .staged []) r))
+      (ran-next m force given (kept .plan) t bl bl' due (h .stage .staged []) r))
 
   -- an accepted call
   accepted : (c : Call N) (st : State) (bl : Pairs N) (a : Result Reply Refusal) (st' : State) (bl' : Pairs N) → declined m st bl c ≡ None → Accepted m st bl c a st' bl' → Tied m force given st bl → After c a st' bl'

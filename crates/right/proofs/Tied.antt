@@ -48,34 +48,34 @@ module _ {N : Type 0} (m : Meaning N) where
   held-first Direct size q s bl h placed = placed
   held-first Radix2 size q s bl h placed =
       λ d.
-        let u : ℕ = stagesOf Radix2 size in
-        let e : u ≡ u - 0 = omega arith in
-        let p : 2 ^ u ≡ size = size2 size h in
-        subst (λ (v : ℕ). Standing (StandsPair m []) q 2 0 v s (entries d bl)) e
-        (loaded (StandsPair m []) q 2 u s (entries d bl) (lit≤ tt) (λ i l. placed i (subst (λ (x : ℕ). i < x) p l) d))
+      let u : ℕ = stagesOf Radix2 size in
+      let e : u ≡ u - 0 = omega arith in
+      let p : 2 ^ u ≡ size = size2 size h in
+      subst (λ (v : ℕ). Standing (StandsPair m []) q 2 0 v s (entries d bl)) e
+      (loaded (StandsPair m []) q 2 u s (entries d bl) (lit≤ tt) (λ i l. placed i (subst (λ (x : ℕ). i < x) p l) d))
   held-first Radix4 size q s bl h placed =
       λ d.
-        let u : ℕ = stagesOf Radix4 size in
-        let e : u ≡ u - 0 = omega arith in
-        let p : 4 ^ u ≡ size = size4 size h in
-        subst (λ (v : ℕ). Standing (StandsPair m []) q 4 0 v s (entries d bl)) e
-        (loaded (StandsPair m []) q 4 u s (entries d bl) (lit≤ tt) (λ i l. placed i (subst (λ (x : ℕ). i < x) p l) d))
+      let u : ℕ = stagesOf Radix4 size in
+      let e : u ≡ u - 0 = omega arith in
+      let p : 4 ^ u ≡ size = size4 size h in
+      subst (λ (v : ℕ). Standing (StandsPair m []) q 4 0 v s (entries d bl)) e
+      (loaded (StandsPair m []) q 4 u s (entries d bl) (lit≤ tt) (λ i l. placed i (subst (λ (x : ℕ). i < x) p l) d))
 
   -- one stage more
   pub held-next : (k : Method) (size q t : ℕ) (s : ℕ → Complex) (bl after : Pairs N) → t < stagesOf k size → Held m k size q t s bl → ((d : N × N) → Staged (StandsPair m []) q (base k) t (stagesOf k size - suc t) (entries d bl) (entries d after)) → Held m k size q (suc t) s after
   held-next Direct size q t s bl after l held staged = absurd (omega arith)
   held-next Radix2 size q t s bl after l held staged =
       λ d.
-        let u : ℕ = stagesOf Radix2 size in
-        let e : u - t ≡ suc (u - suc t) = omega arith in
-        stage-made (StandsPair m []) q 2 t (u - suc t) s (entries d bl) (entries d after) (lit≤ tt)
-        (subst (λ (v : ℕ). Standing (StandsPair m []) q 2 t v s (entries d bl)) e (held d)) (staged d)
+      let u : ℕ = stagesOf Radix2 size in
+      let e : u - t ≡ suc (u - suc t) = omega arith in
+      stage-made (StandsPair m []) q 2 t (u - suc t) s (entries d bl) (entries d after) (lit≤ tt)
+      (subst (λ (v : ℕ). Standing (StandsPair m []) q 2 t v s (entries d bl)) e (held d)) (staged d)
   held-next Radix4 size q t s bl after l held staged =
       λ d.
-        let u : ℕ = stagesOf Radix4 size in
-        let e : u - t ≡ suc (u - suc t) = omega arith in
-        stage-made (StandsPair m []) q 4 t (u - suc t) s (entries d bl) (entries d after) (lit≤ tt)
-        (subst (λ (v : ℕ). Standing (StandsPair m []) q 4 t v s (entries d bl)) e (held d)) (staged d)
+      let u : ℕ = stagesOf Radix4 size in
+      let e : u - t ≡ suc (u - suc t) = omega arith in
+      stage-made (StandsPair m []) q 4 t (u - suc t) s (entries d bl) (entries d after) (lit≤ tt)
+      (subst (λ (v : ℕ). Standing (StandsPair m []) q 4 t v s (entries d bl)) e (held d)) (staged d)
 
 -- what place n stands for when no stage is due: the sample for direct lines, the line for the others
 abbrev pub endOf : Method → (size q : ℕ) → (ℕ → Complex) → ℕ → Complex
