@@ -1,14 +1,13 @@
 -- Complex whole numbers that agree modulo n, and what blocks read of them.
-use Prim.Native.Nat.{ℕ, zero, suc, _+_, _*_, _/_, _<_, _≤_}
-use mathlib.Core.Path.{_≡_, refl, sym, _∙_, ap, subst}
-use mathlib.Core.Bool.{true}
+use Prim.Native.Nat.{ℕ, zero, suc, _*_, _/_, _<_}
+use mathlib.Core.Path.{_≡_, refl, sym, ap, subst}
 use mathlib.Core.List.{List, [], _∷_}
 use native.Mathlib.Nat.{not-suc-le-zero, le-of-suc-le-suc}
 use native.Mathlib.Omega.{arith}
-use lib.IntN.{ℤ, pos, _+ℤ_, _-ℤ_, _*ℤ_}
+use lib.IntN.{_*ℤ_}
 use lib.ListN.{length, getD}
 use Rattle.integers.specs.declared.Complex.{Complex}
-use Rattle.integers.specs.Complex.{complex, _⊕_, _⊗_}
+use Rattle.integers.specs.Complex.{_⊕_, _⊗_}
 use Rattle.integers.specs.Residue.{residue, centred}
 use Rattle.integers.proofs.ComplexRing.{complex-same}
 use Rattle.integers.proofs.Residues.{same-sum, same-difference, same-multiple, centred-back}
@@ -16,7 +15,7 @@ use Rattle.circle.specs.Twiddle.{twiddle}
 use Rattle.lines.specs.Lines.{sumBelow, directLine}
 use Rattle.lines.specs.Laws.{meant}
 use Rattle.scheme.specs.Meaning.{Meaning, Sound}
-use Rattle.scheme.specs.Hidden.{Stands, StandsPair, WellFormed, readPair}
+use Rattle.scheme.specs.Hidden.{StandsPair, WellFormed}
 use Rattle.scheme.specs.Sealing.{means, meansPair}
 use Rattle.scheme.proofs.Standing.{read-agrees}
 use Rattle.stages.specs.Block.{readAt}

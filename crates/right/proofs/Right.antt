@@ -1,18 +1,16 @@
 -- Opened lines are right.
 use Prim.Native.Nat.{ℕ, _*_, _^_, _<_, _≤_}
-use mathlib.Core.Path.{_≡_, refl, sym, _∙_, ap, subst}
-use mathlib.Core.Bool.{Bool, true}
+use mathlib.Core.Path.{_≡_, refl, sym, _∙_, subst}
 use mathlib.Core.List.{List, []}
 use native.Mathlib.Omega.{arith}
 use borrow.Author.Tests.{ltb-true}
-use lib.Dec.{eqb, ltb}
+use lib.Dec.{ltb}
 use lib.ListN.{length}
 use Rattle.std.specs.declared.option.Option.{Option}
 use Rattle.std.specs.declared.option.Option.the-variants.{Some, None}
 use Rattle.std.specs.declared.result.Result.{Result}
 use Rattle.std.specs.declared.result.Result.the-variants.{Ok, Err}
 use Rattle.integers.specs.declared.Complex.{Complex}
-use Rattle.integers.specs.Complex.{complex}
 use Rattle.circle.specs.Near.{Near, multiple}
 use Rattle.refusal.specs.declared.kinds.Refusal.{Refusal}
 use Rattle.refusal.specs.declared.kinds.Refusal.the-variants.{Place}
@@ -29,7 +27,6 @@ use Rattle.scheme.specs.Meaning.{Meaning, Sound}
 use Rattle.scheme.specs.Hidden.{StandsPair}
 use Rattle.stages.specs.Block.{readAt}
 use Rattle.stages.specs.Stage.{entries}
-use Rattle.states.specs.declared.Kept.{Kept}
 use Rattle.states.specs.declared.State.{State}
 use Rattle.states.specs.declared.State.the-variants.{Idle, Filling, Running, Finished}
 use Rattle.states.specs.declared.Call.the-variants.{Line as LineCall}
@@ -37,9 +34,9 @@ use Rattle.states.specs.declared.Line.{Line}
 use Rattle.states.specs.declared.Reply.{Reply}
 use Rattle.states.specs.declared.Reply.the-variants.{Opened}
 use Rattle.states.specs.Step.{Pairs, StepBy, declined, lineRead, stated}
-use Rattle.states.specs.History.{Numbers, RightFor, RightBy, planIn, samplesIn, Event, OpenedLinesAreRight}
+use Rattle.states.specs.History.{RightFor, RightBy, planIn, samplesIn, Event, OpenedLinesAreRight}
 use Rattle.right.proofs.Agreeing.{Agree, agree-meant, agree-direct, read-stands, some}
-use Rattle.right.proofs.Tied.{numbersOf, InForce, Ran, Tied, endOf, held-last}
+use Rattle.right.proofs.Tied.{numbersOf, Tied, endOf, held-last}
 use Rattle.right.proofs.Steps.{unless-none, reached-tied}
 
 module _ {N : Type 0} (m : Meaning N) (ok : Sound m) where

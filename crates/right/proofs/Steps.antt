@@ -1,10 +1,10 @@
 -- Every call keeps the state and the block tied to the plan in force and the samples last loaded.
-use Prim.Native.Nat.{ℕ, zero, suc, _-_, _<_, _≤_}
-use mathlib.Core.Path.{_≡_, refl, sym, _∙_, ap, subst}
+use Prim.Native.Nat.{ℕ, suc, _≤_}
+use mathlib.Core.Path.{_≡_, refl, sym, ap, subst}
 use mathlib.Core.Bool.{Bool, true, false, cond, _&&_}
 use mathlib.Core.List.{List, [], _∷_}
 use native.Mathlib.Omega.{arith}
-use borrow.Author.Tests.{eqb-true, leb-true, ltb-true}
+use borrow.Author.Tests.{leb-true, ltb-true}
 use lib.Dec.{eqb, leb, ltb}
 use lib.IntN.{pos}
 use lib.ListN.{length, set, length-set}
@@ -19,11 +19,10 @@ use Rattle.refusal.specs.declared.kinds.Refusal.the-variants.{Block, Narrow, Pl
 use Rattle.plan.specs.declared.method.Method.{Method}
 use Rattle.plan.specs.declared.plan.Plan.{Plan}
 use Rattle.plan.specs.Meaning.{figuresOf, leastModulus}
-use Rattle.plan.specs.Making.{Has, meaningOf, refused}
+use Rattle.plan.specs.Making.{Has, refused}
 use Rattle.lines.specs.Places.{placeOf}
 use Rattle.scheme.specs.Meaning.{Meaning, Sound}
-use Rattle.scheme.specs.Hidden.{StandsPair, WellFormed}
-use Rattle.scheme.specs.Sealing.{meansPair}
+use Rattle.scheme.specs.Hidden.{WellFormed}
 use Rattle.stages.specs.Block.{sound}
 use Rattle.states.specs.declared.Kept.{Kept}
 use Rattle.states.specs.declared.State.{State}
@@ -31,10 +30,10 @@ use Rattle.states.specs.declared.State.the-variants.{Idle, Filling, Running, Fi
 use Rattle.states.specs.declared.Call.{Call}
 use Rattle.states.specs.declared.Call.the-variants.{Plan as PlanCall, Load, Begin, Advance, Line as LineCall, Restart}
 use Rattle.states.specs.declared.Reply.{Reply}
-use Rattle.states.specs.declared.Reply.the-variants.{Done, Opened}
-use Rattle.states.specs.Step.{Pairs, Step, StepBy, Accepted, Declined, Becomes, Planned, Advanced, declined, planDeclined, unless, first, stagesFor, progress}
+use Rattle.states.specs.declared.Reply.the-variants.{Done}
+use Rattle.states.specs.Step.{Pairs, Step, StepBy, Accepted, Declined, Becomes, Planned, Advanced, declined, planDeclined, unless, first, progress}
 use Rattle.states.specs.History.{Event, Numbers, planAfter, samplesAfter, planIn, samplesIn, Reached}
-use Rattle.right.proofs.Tied.{numbersOf, InForce, Filled, Ran, Tied, force-long, progress-tied, filled-ran, ran-next, filled-none}
+use Rattle.right.proofs.Tied.{numbersOf, Tied, force-long, progress-tied, filled-ran, ran-next, filled-none}
 use Rattle.right.proofs.Loading.{filled-more}
 
 -- ---- what it takes not to be declined

@@ -1,16 +1,14 @@
 -- What the state and the block of a window are tied to: the plan in force and the samples last loaded.
-use Prim.Native.Nat.{ℕ, zero, suc, _+_, _-_, _*_, _^_, _<_, _≤_}
-use mathlib.Core.Path.{_≡_, refl, sym, _∙_, ap, subst}
-use mathlib.Core.Bool.{Bool, true, false, cond, _&&_}
-use mathlib.Core.List.{List, [], _∷_}
-use mathlib.Core.Logic.{_≢_}
+use Prim.Native.Nat.{ℕ, suc, _-_, _^_, _<_, _≤_}
+use mathlib.Core.Path.{_≡_, refl, sym, subst}
+use mathlib.Core.Bool.{Bool, true, false, cond}
+use mathlib.Core.List.{[]}
 use native.Mathlib.Omega.{arith}
 use borrow.Author.Tests.{eqb-true, eqb-false}
-use lib.Dec.{eqb, leb, lit≤}
-use lib.ListN.{length, getD, set, length-set}
-use lib.Seq.{getD-set-same, getD-set-other}
+use lib.Dec.{eqb, lit≤}
+use lib.ListN.{length}
 use Rattle.std.specs.declared.option.Option.{Option}
-use Rattle.std.specs.declared.option.Option.the-variants.{Some, None}
+use Rattle.std.specs.declared.option.Option.the-variants.{Some}
 use Rattle.integers.specs.declared.Complex.{Complex}
 use Rattle.plan.specs.declared.method.Method.{Method}
 use Rattle.plan.specs.declared.method.Method.the-variants.{Direct, Radix2, Radix4}
@@ -22,8 +20,7 @@ use Rattle.lines.specs.Lines.{stagesOf, lineOf}
 use Rattle.lines.specs.Places.{placeOf, Standing, Staged}
 use Rattle.lines.proofs.Places.{stage-made, loaded, finished}
 use Rattle.lines.proofs.Sizes.{size2, size4}
-use Rattle.lines.proofs.Digits.{places-stand}
-use Rattle.scheme.specs.Meaning.{Meaning, Sound}
+use Rattle.scheme.specs.Meaning.{Meaning}
 use Rattle.scheme.specs.Hidden.{StandsPair}
 use Rattle.stages.specs.Stage.{entries}
 use Rattle.states.specs.declared.Kept.{Kept}
@@ -153,5 +150,5 @@ module _ {N : Type 0} (m : Meaning N) (force : Option Numbers) (given : ℕ → 
       record { samples = h .samples; loads = h .loads; held = held-next m (p .method) (p .size) (p .«twiddle_scale») t (h .samples) bl after l (h .held) staged }
 
 -- with no sample loaded
-pub filled-none : {N : Type 0} (m : Meaning N) (given : ℕ → Option Complex) (p : Plan) (zero-at : Complex) (bl : Pairs N) → Filled m p given 0 bl
+pub filled-none : {N : Type 0} (m : Meaning N) (given : ℕ → Option Complex) (p : Plan) (z : Complex) (bl : Pairs N) → Filled m p given 0 bl
 filled-none m given p z bl = record { most = omega arith; samples = λ n. z; loads = λ n l. absurd (omega arith); placed = λ n l. absurd (omega arith) }
