@@ -1,1 +1,3 @@
-mod Try
+pub mod Plans
+pub mod Blocks
+pub mod Stages
