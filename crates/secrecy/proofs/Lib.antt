@@ -1,3 +1,4 @@
 pub mod Plans
 pub mod Blocks
 pub mod Stages
+pub mod Steps
