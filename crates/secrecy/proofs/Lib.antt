@@ -2,3 +2,4 @@ pub mod Plans
 pub mod Blocks
 pub mod Stages
 pub mod Steps
+pub mod Masks

@@ -82,11 +82,11 @@ size-covered Radix4 m t s h = sym (size4 m s) ∙ split-power 4 (stagesOf Radix4
 
 -- ---- pairs
 
-and-first : (x y : Bool) → x && y ≡ true → x ≡ true
+pub and-first : (x y : Bool) → x && y ≡ true → x ≡ true
 and-first true y e = refl
 and-first false y e = e
 
-and-second : (x y : Bool) → x && y ≡ true → y ≡ true
+pub and-second : (x y : Bool) → x && y ≡ true → y ≡ true
 and-second true y e = e
 and-second false true e = refl
 and-second false false e = e
