@@ -3,3 +3,4 @@ pub mod Blocks
 pub mod Stages
 pub mod Steps
 pub mod Masks
+pub mod Runs
