@@ -4,3 +4,7 @@ pub mod Stages
 pub mod Steps
 pub mod Masks
 pub mod Runs
+pub mod Mixing
+pub mod Making
+pub mod Following
+pub mod Secrecy
