@@ -109,6 +109,7 @@ runs-exist n modulus h (c ∷ cs) (u ∷ ts) p st xs ys zs t e k s =
     let f = next n modulus h p cs (answersOf ts) c (u .answer) zs st xs (k .0) (u .block) t (k .1) s in
     let g = follows n modulus h p xs ys e (u .answer) (k .0) (u .block) c (f .pair) st t (f .alike) (k .1) in
     let same = step-same n (split-sound n modulus) h p xs ys e (u .answer) (g .answer) (k .0) (k .0) (u .block) (g .block) c (f .pair) st t (f .alike) (k .1) (g .step) in
-    let more = runs-exist n modulus h cs ts (planAfter (u .answer) c p) (k .0) (u .block) (g .block) (f .later) (tied-step n p c st xs (u .answer) (k .0) (u .block) t (k .1)) (same .blocks) (k .2) (f .samples) in
-    (record { answer = g .answer; block = g .block } ∷ more .0,
-    subst (λ (ds : List (Call (Halves ℕ))). Run (shares n) st ys ds (record { answer = g .answer; block = g .block } ∷ more .0)) (sym (f .calls)) (k .0, g .step, more .1))
+    let more = runs-exist n modulus h cs ts (planAfter (u .answer) c p) (k .0) (u .block) (g .block) (f .later) (tied-step n p c st xs (u .answer) (k .0) (u .block) t (k .1)) (same .blocks) (k .2) (f .samples) in (
+      record { answer = g .answer; block = g .block } ∷ more .0,
+      subst (λ (ds : List (Call (Halves ℕ))). Run (shares n) st ys ds (record { answer = g .answer; block = g .block } ∷ more .0)) (sym (f .calls)) (k .0, g .step, more .1),
+    )

@@ -156,8 +156,8 @@ module _ (n : ℕ) (some : 0 < n) where
     past : (d : Pair) (i : ℕ) → p .size ≤ i → getD after i d ≡ getD before i d
     past d i b =
         elim (decLt i (length before)) [
-          yes l ↦ at i d l ∙ beyond i b ∙ getD-any before i nothing d l
-        | no l ↦ let a : length after ≤ i = omega (arith, long) in let c : length before ≤ i = omega arith in List·getD-eq-default after d a ∙ sym (List·getD-eq-default before d c)
+          | yes l ↦ at i d l ∙ beyond i b ∙ getD-any before i nothing d l
+          | no l ↦ let a : length after ≤ i = omega (arith, long) in let c : length before ≤ i = omega arith in List·getD-eq-default after d a ∙ sym (List·getD-eq-default before d c)
         ]
 
     formed : (i : ℕ) → i < p .size → soundAt (shares n) after i ≡ true
