@@ -8,3 +8,4 @@ pub mod Mixing
 pub mod Making
 pub mod Following
 pub mod Secrecy
+pub mod Words

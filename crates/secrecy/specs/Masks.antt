@@ -1,4 +1,5 @@
 -- The mask words under which a house would have seen the same numbers for other samples.
+use mathlib.Core.Path.{_≡_}
 use mathlib.Core.Bool.{Bool, true, false}
 use mathlib.Core.List.{List, [], _∷_}
 use Prim.Native.Nat.{ℕ}
@@ -8,10 +9,14 @@ use Rattle.std.specs.declared.option.Option.the-variants.{Some, None}
 use Rattle.integers.specs.declared.Complex.{Complex}
 use Rattle.integers.specs.Residue.{residue}
 use Rattle.split.specs.declared.halves.Halves.{Halves}
+use Rattle.plain.specs.Residues.{residues}
+use Rattle.split.specs.Shares.{split}
+use Rattle.states.specs.declared.State.the-variants.{Idle}
 use Rattle.states.specs.declared.Call.{Call}
+use Rattle.states.specs.Step.{Pairs}
 use Rattle.secrecy.specs.declared.House.{House}
 use Rattle.secrecy.specs.declared.House.the-variants.{First, Second}
-use Rattle.secrecy.specs.Secrecy.{Answers, loaded}
+use Rattle.secrecy.specs.Secrecy.{After, Answers, answersOf, Run, loaded, SecondSamples, Indistinguishable}
 
 -- the house as the law on runs speaks of it
 abbrev pub side : House → Bool
@@ -47,3 +52,8 @@ loads (c ∷ cs) (r ∷ rs) = loadsFirst (loaded r c) (loads cs rs)
 -- the words of all second samples, one pair for each accepted load
 abbrev pub masks : ℕ → Bool → List (Call (Halves ℕ)) → Answers → List Complex → List (ℕ × ℕ)
 masks n h cs rs zs = wordsOf n h (loads cs rs) zs
+
+-- with these words the house h would have seen the same: whatever list ran on a new window over whatever block, if xs are the pairs of its accepted loads
+-- and zs are second samples for them
+abbrev pub Serve : ℕ → Bool → List (Halves ℕ × Halves ℕ) → List Complex → List (ℕ × ℕ) → Type 0
+Serve n h xs zs ws = (start : Pairs (Halves ℕ)) (cs : List (Call (Halves ℕ))) (ts : List (After (Halves ℕ))) → Run (split (residues n)) Idle start cs ts → loads cs (answersOf ts) ≡ xs → SecondSamples None cs (answersOf ts) zs → Indistinguishable n h start cs ts zs ws

@@ -1,10 +1,14 @@
 // What a house may learn from the numbers that it holds: not the samples.
 ghost use mathlib.Core.Path.{_≡_};
-ghost use Rattle.secrecy.specs.Masks.{side, word, words};
+ghost use Rattle.secrecy.specs.Masks.{Serve, side, word, words, wordsOf};
 ghost use Rattle.secrecy.specs.Secrecy.{SecrecyStands};
+ghost use Rattle.std.specs.Of.Vec.{vec-items};
+ghost use Rattle.std.specs.Vec.{made};
 use integers::Complex;
 use integers::Modulus;
 use split::Halves;
+use std::alloc::AllocError;
+use std::alloc::Global;
 
 // The two houses between which every number of a block is split: each holds one half of it.
 #[derive(Clone, Copy)]
@@ -43,4 +47,24 @@ pub fn mask_words(
 {
     let (re, im) = pair;
     (mask_word(n, house, z.re, re), mask_word(n, house, z.im, im))
+}
+
+// The mask words for second samples, given the pairs of the accepted loads of a list of calls: sealed with these words, the second
+// samples would have shown the house the same.
+pub fn masks_for(
+    heap: Global,
+    n: Modulus,
+    house: House,
+    pairs: &[(Halves<u64>, Halves<u64>)],
+    samples: &[Complex],
+) -> Result<Vec<(u64, u64)>, AllocError>
+    ensures value { λ r. ⌜ made r (λ v. vec-items v ≡ wordsOf (n .n) (side house) (now (pairs .entry)) (now (samples .entry))) ⌝ }
+    ensures law { λ r. ⌜ made r (λ v. Serve (n .n) (side house) (now (pairs .entry)) (now (samples .entry)) (vec-items v)) ⌝ }
+{
+    let count = pairs.len().min(samples.len());
+    let mut masks = Vec::new(heap);
+    for i in 0..count {
+        masks.push(mask_words(n, house, samples[i], pairs[i]))?;
+    }
+    Ok(masks)
 }
