@@ -9,3 +9,4 @@ pub mod Making
 pub mod Following
 pub mod Secrecy
 pub mod Words
+pub mod Totality
