@@ -57,10 +57,15 @@ def cycle():
     current = [round(80 * sin(n * angle) + 15 * sin(5 * n * angle)) for n in range(16)]
     samples = [(x, 0) for x in current]
     d, _, e = figures("4", 16, 100, 1000)
-    print(f"radix 4, size 16, split modulo {2**31 - 1}: scale {d}, distance {e}")
+    print("begin: no, 6 moment")
+    print("plan radix 4, size 16, scales 100 and 1000: ok")
+    print("begin: no, 10 short")
+    for n in range(16):
+        print(f"load {n}: ok")
+    print("begin: ok\nadvance: ok\nline 1: no, 6 moment\nadvance: ok")
     opened = lines("4", 1000, samples)
-    for k in range(1, 8):
-        print(f"line {k}: {opened[k][0]}, {opened[k][1]}")
+    for k in [1, 3, 5, 7]:
+        print(f"line {k}: {opened[k][0]}, {opened[k][1]}, scale {d}, distance {e}")
         re, im = (decimal(Fraction(part, d)) for part in opened[k])
         print(f"  divided by the scale {re}, {im}")
         re, im = (
@@ -71,6 +76,21 @@ def cycle():
             )
         )
         print(f"  exact {re}, {im}")
+    print("line 16: no, 7 place\nrestart: ok")
+    unknown(current[:3])
+
+
+def unknown(current):
+    print("\nWhat the houses cannot tell\n")
+    n = 2**31 - 1
+    words = [((k + 1) * 123456789 % n, (k + 1) * 123456789 * 7 % n) for k in range(3)]
+    seconds = [((x - a) % n, -b % n) for x, (a, b) in zip(current, words)]
+    print("the first house would hold the same for a flat 40 under the mask words")
+    for a, b in words:
+        print(f"  {a} and {b}")
+    print("the second house would hold the same for a flat 40 under the mask words")
+    for a, b in seconds:
+        print(f"  {(40 - a) % n} and {-b % n}")
 
 
 def cards():

@@ -1,5 +1,6 @@
 // The real task, as far as it goes: prints what the lines of some plans mean before a meter is
-// fitted, shows one sample on its way, and transforms one cycle of a feeder current that stays hidden.
+// fitted, shows one sample on its way, takes one cycle of a feeder current through the window while it
+// stays hidden, and prints the masks under which a house would have seen the same for another curve.
 mod cards;
 mod cycle;
 mod sample;
@@ -7,6 +8,7 @@ mod sample;
 use cards::MODULUS;
 use cards::print_cards;
 use cycle::print_cycle;
+use cycle::print_unknown;
 use sample::print_split_sample;
 use sample::print_system_sample;
 use std::error::AnyError;
@@ -19,5 +21,7 @@ fn main(rt: LibcRuntime) -> Result<(), AnyError> {
     print_split_sample(&rt, 270_401, 1)?;
     print_system_sample(&rt, -57)?;
     println!(rt, "\nOne cycle of a feeder current\n")?;
-    print_cycle(&rt)
+    print_cycle(&rt)?;
+    println!(rt, "\nWhat the houses cannot tell\n")?;
+    print_unknown(&rt)
 }
