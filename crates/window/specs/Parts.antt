@@ -1,7 +1,7 @@
 -- What the parts of a call answer: declined as the step says, with the block as it was, or done.
 use Prim.Native.Nat.{ℕ, _≤_, _<_}
 use mathlib.Core.Path.{_≡_}
-use mathlib.Core.List.{[]}
+use mathlib.Core.List.{List, []}
 use lib.ListN.{set}
 use Rattle.std.specs.declared.option.Option.the-variants.{Some, None}
 use Rattle.std.specs.declared.result.Result.{Result}
@@ -30,6 +30,16 @@ Planning m bl k size q1 q2 (Err x) = planDeclined m bl k size q1 q2 ≡ Some x
 abbrev pub Beginning : Kept → ℕ → Result State Refusal → Type 0
 Beginning kept count (Ok st) = (kept .plan .size ≤ count) × (st ≡ progress kept 0)
 Beginning kept count (Err x) = (count < kept .plan .size) × (x ≡ Short)
+
+-- loading the pair as sample n, which there is, is not declined, whatever the block holds
+abbrev pub Checking : {N : Type 0} → Meaning N → Kept → ℕ → ℕ → N × N → Result (Unit {0}) Refusal → Type 0
+Checking m kept count n x (Ok _) = (declined m (Filling kept count) [] (Load n x) ≡ None) × (n < kept .plan .size)
+Checking m kept count n x (Err e) = declined m (Filling kept count) [] (Load n x) ≡ Some e
+
+-- the pair at the place of sample n, where there is such a sample
+abbrev pub Putting : {A : Type 0} → Plan → ℕ → A → List A → List A → Result (Unit {0}) Refusal → Type 0
+Putting p n x before after (Ok _) = after ≡ set before (placeOf (p .method) (p .size) n) x
+Putting p n x before after (Err e) = p .size ≤ n
 
 -- the pair at the place of sample n, where it is not declined
 abbrev pub Loading : {N : Type 0} → Meaning N → Kept → ℕ → ℕ → N × N → Pairs N → Pairs N → Result (Unit {0}) Refusal → Type 0

@@ -1,11 +1,11 @@
 // The parts of the calls: what each does to the block, and why it is declined.
 ghost use mathlib.Core.Path.{_≡_};
 ghost use mathlib.Core.Bool.{true};
-ghost use Prim.Native.Nat.{ℕ, _<_, _≤_};
+ghost use Prim.Native.Nat.{ℕ, _+_, _<_, _≤_};
 ghost use lib.ListN.{length, getD, set};
 ghost use Rattle.stages.specs.Block.{wellFormed};
 ghost use Rattle.states.specs.Step.{progress as progressOf, stagesFor};
-ghost use Rattle.window.specs.Parts.{Beginning, Planning, Loading, Advancing, Reading, Opening};
+ghost use Rattle.window.specs.Parts.{Beginning, Planning, Checking, Putting, Loading, Advancing, Reading, Opening};
 use plan::Method;
 use plan::Plan;
 use refusal::Refusal;
@@ -56,7 +56,7 @@ fn stages_of(plan: &Plan) -> usize
 }
 
 // The state after so many stages.
-pub(crate) fn progress(kept: Kept, done: usize) -> State
+fn progress(kept: Kept, done: usize) -> State
     ensures { λ r. ⌜ r ≡ progressOf kept done ⌝ }
 {
     if done == stages_of(&kept.plan) {
@@ -64,6 +64,14 @@ pub(crate) fn progress(kept: Kept, done: usize) -> State
     } else {
         State::Running { kept, done }
     }
+}
+
+// The state after one more stage than `done`.
+pub(crate) fn advanced(kept: Kept, done: usize) -> State
+    requires { ⌜ done < 8 ⌝ }
+    ensures { λ r. ⌜ r ≡ progressOf kept (done + 1) ⌝ }
+{
+    progress(kept, done + 1)
 }
 
 // The state after a beginning with `count` samples loaded, or Short.
@@ -97,6 +105,39 @@ pub(crate) fn plan_for<S: Scheme>(
     Ok(Kept { plan, modulus })
 }
 
+// Why loading the pair as sample n, with `count` samples loaded, is declined.
+fn check_load<S: Scheme>(
+    s: &mut S,
+    kept: &Kept,
+    count: usize,
+    n: usize,
+    pair: (S::Number, S::Number),
+) -> Result<(), Refusal>
+    ensures value { λ r. ⌜ Checking (meaning (now (s .entry))) (now (kept .entry)) count n pair r ⌝ }
+    ensures frame { λ _. ⌜ meaning (now (s .exit)) ≡ meaning (now (s .entry)) ⌝ }
+{
+    if n > count || n >= kept.plan.size() {
+        return Err(Refusal::Place);
+    }
+    if s.modulus() != kept.modulus {
+        return Err(Refusal::Strange);
+    }
+    if !is_well_formed(s, pair) {
+        return Err(Refusal::Malformed(n));
+    }
+    Ok(())
+}
+
+// Puts a pair to the place of sample n; Place where there is no such sample.
+fn put_sample<T: Copy>(plan: &Plan, n: usize, pair: T, block: &mut [T]) -> Result<(), Refusal>
+    requires { ⌜ now plan .size ≤ length (now block) ⌝ }
+    ensures { λ r. ⌜ Putting (now (plan .entry)) n pair (now (block .entry)) (now (block .exit)) r ⌝ }
+{
+    let place = place_of(plan, n)?;
+    put(block, place, pair);
+    Ok(())
+}
+
 // Puts a pair to the place of sample n, with `count` samples loaded.
 pub(crate) fn load_at<S: Scheme>(
     s: &mut S,
@@ -110,18 +151,8 @@ pub(crate) fn load_at<S: Scheme>(
     ensures value { λ r. ⌜ Loading (meaning (now (s .entry))) (now (kept .entry)) count n pair (now (block .entry)) (now (block .exit)) r ⌝ }
     ensures frame { λ _. ⌜ meaning (now (s .exit)) ≡ meaning (now (s .entry)) ⌝ }
 {
-    if n > count {
-        return Err(Refusal::Place);
-    }
-    let place = place_of(&kept.plan, n)?;
-    if s.modulus() != kept.modulus {
-        return Err(Refusal::Strange);
-    }
-    if !is_well_formed(s, pair) {
-        return Err(Refusal::Malformed(n));
-    }
-    put(block, place, pair);
-    Ok(())
+    check_load(s, kept, count, n, pair)?;
+    put_sample(&kept.plan, n, pair, block)
 }
 
 // Stage t + 1.

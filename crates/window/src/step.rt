@@ -48,7 +48,7 @@ pub(crate) fn step<S: Scheme>(
         }
         (State::Running { kept, done }, Call::Advance) => {
             parts::advance_at(s, &kept, done, block)?;
-            *state = parts::progress(kept, done + 1);
+            *state = parts::advanced(kept, done);
             Ok(Reply::Done)
         }
         (State::Finished { kept }, Call::Line { k }) => {

@@ -31,10 +31,8 @@ impl<'a, S: Scheme> Window<'a, S> {
         ensures block { λ r. ⌜ now (r .block) ≡ now (block .entry) ⌝ }
         ensures lender { λ r. ⌜ name (r .block) ≡ name (block .entry) ⌝ }
     {
-        Window {
-            block,
-            state: State::Idle,
-        }
+        let state = State::Idle;
+        Window { block, state }
     }
 
     // The state of the window.

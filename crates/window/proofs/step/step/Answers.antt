@@ -10,8 +10,8 @@ use Rattle.states.specs.Step.{Step, fits, progress, stagesFor}
 use Rattle.window.proofs.Stepping.{stages-few, filling-fits, running-fits, progress-fits, planned-fits, planned, begun, advanced}
 use Rattle.window.proofs.step.step.Needs as need
 
-pub add-done : need.add-done
-add-done g c =
+pub advanced-requires : need.advanced-requires
+advanced-requires g c κs =
     let kept = c .in-Running-Advance .kept in
     let h = running-fits (length (c .args .block .now)) (c .args .state .now) kept (c .in-Running-Advance .done) (c .in-Running-Advance .is-0) (c .pre) in
     omega (arith, h .1, stages-few (kept .plan .method) (kept .plan .size))
@@ -39,7 +39,7 @@ returns-in-Continue-advance-at g c =
     let bl = c .args .block .now in
     let after = c .advance-at .last .block in
     let st = c .args .state .now in
-    let r = c .progress .result in
+    let r = c .advanced .result in
     let f = running-fits (length bl) st kept t (c .in-Running-Advance .is-0) (c .pre) in
     let h = c .in-Continue-advance-at .ensures tt .value in
     let l : kept .plan .size ≤ length after = omega (arith, f .0, h .1 .long) in
@@ -47,8 +47,8 @@ returns-in-Continue-advance-at g c =
     record {
       step =
           subst (λ k. Step m st bl k (Ok Done) r after) (sym (c .in-Running-Advance .is-1))
-          (advanced m st bl kept t r after (c .in-Running-Advance .is-0) h (c .progress .ensures));
-      fits = subst (λ s. fits (length after) s ≡ true) (sym (c .progress .ensures)) (progress-fits (length after) kept (t + 1) l d);
+          (advanced m st bl kept t r after (c .in-Running-Advance .is-0) h (c .advanced .ensures));
+      fits = subst (λ s. fits (length after) s ≡ true) (sym (c .advanced .ensures)) (progress-fits (length after) kept (t + 1) l d);
       frame = c .advance-at .ensures .frame;
     }
 
