@@ -10,3 +10,4 @@ pub mod Following
 pub mod Secrecy
 pub mod Words
 pub mod Totality
+pub mod Guards
