@@ -1,0 +1,2 @@
+pub mod Step
+pub mod History

@@ -1,0 +1,4 @@
+pub mod Searching
+pub mod Staging
+pub mod Counting
+pub mod Planning
