@@ -23,7 +23,7 @@ use Rattle.plan.specs.Making.{Has, refused}
 use Rattle.lines.specs.Places.{placeOf}
 use Rattle.scheme.specs.Meaning.{Meaning, Sound}
 use Rattle.scheme.specs.Hidden.{WellFormed}
-use Rattle.stages.specs.Block.{sound}
+use Rattle.stages.specs.Block.{wellFormed as sound}
 use Rattle.states.specs.declared.Kept.{Kept}
 use Rattle.states.specs.declared.State.{State}
 use Rattle.states.specs.declared.State.the-variants.{Idle, Filling, Running, Finished}

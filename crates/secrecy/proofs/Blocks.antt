@@ -14,7 +14,7 @@ use Rattle.scheme.specs.Meaning.{Meaning}
 use Rattle.plain.specs.Residues.{residues}
 use Rattle.split.specs.declared.halves.Halves.{Halves}
 use Rattle.split.specs.Shares.{split}
-use Rattle.stages.specs.Block.{sound, soundAt}
+use Rattle.stages.specs.Block.{wellFormed as sound, wellFormedAt as soundAt}
 use Rattle.states.specs.Step.{Pairs, firstMalformed, malformedFrom}
 use Rattle.secrecy.specs.Secrecy.{half, halves}
 

@@ -25,7 +25,7 @@ use Rattle.plain.specs.Residues.{residues}
 use Rattle.split.specs.declared.halves.Halves.{Halves}
 use Rattle.split.specs.Shares.{split, Masked}
 use Rattle.split.proofs.Laws.{seal-splits}
-use Rattle.stages.specs.Block.{sound}
+use Rattle.stages.specs.Block.{wellFormed as sound}
 use Rattle.secrecy.specs.Secrecy.{half, halves, hidden, hiddenPair, SealedAs}
 use Rattle.secrecy.specs.Masks.{word, words}
 use Rattle.secrecy.proofs.Blocks.{Pair, Known, shares, known}

@@ -19,7 +19,7 @@ use Rattle.plan.specs.Making.{meaningOf}
 use Rattle.lines.specs.Laws.{Within}
 use Rattle.scheme.specs.Meaning.{Sound}
 use Rattle.split.specs.declared.halves.Halves.{Halves}
-use Rattle.stages.specs.Block.{sound}
+use Rattle.stages.specs.Block.{wellFormed as sound}
 use Rattle.states.specs.declared.Kept.{Kept}
 use Rattle.states.specs.declared.State.{State}
 use Rattle.states.specs.declared.State.the-variants.{Idle, Filling, Running, Finished}

@@ -24,7 +24,7 @@ use Rattle.scheme.specs.Meaning.{Meaning, Sound, View}
 use Rattle.scheme.specs.Hidden.{StandsPair, WellFormed, readPair}
 use Rattle.scheme.proofs.Standing.{pair-itself}
 use Rattle.split.specs.declared.halves.Halves.{Halves}
-use Rattle.stages.specs.Block.{sound, soundAt}
+use Rattle.stages.specs.Block.{wellFormed as sound, wellFormedAt as soundAt}
 use Rattle.stages.specs.Stage.{entries}
 use Rattle.states.specs.Step.{Pairs, StageDone, stagesFor, firstMalformed}
 use Rattle.secrecy.specs.Secrecy.{half, halves}

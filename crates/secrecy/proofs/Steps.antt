@@ -21,7 +21,7 @@ use Rattle.plan.specs.Making.{Has, meaningOf, refused}
 use Rattle.lines.specs.Places.{placeOf}
 use Rattle.scheme.specs.Meaning.{Meaning, Sound}
 use Rattle.split.specs.declared.halves.Halves.{Halves}
-use Rattle.stages.specs.Block.{sound, soundAt}
+use Rattle.stages.specs.Block.{wellFormed as sound, wellFormedAt as soundAt}
 use Rattle.states.specs.declared.Kept.{Kept}
 use Rattle.states.specs.declared.State.{State}
 use Rattle.states.specs.declared.State.the-variants.{Idle, Filling, Running, Finished}
