@@ -22,7 +22,7 @@ pub(crate) fn step<S: Scheme>(
     ensures fits { λ _. ⌜ fits (length (now (block .exit))) (now (state .exit)) ≡ true ⌝ }
     ensures frame { λ _. ⌜ meaning (now (s .exit)) ≡ meaning (now (s .entry)) ⌝ }
 {
-    match (&mut *state, call) {
+    match (*state, call) {
         (
             _,
             Call::Plan {
@@ -37,35 +37,31 @@ pub(crate) fn step<S: Scheme>(
             Ok(Reply::Done)
         }
         (State::Filling { kept, count }, Call::Load { n, pair }) => {
-            parts::load_at(s, kept, *count, n, pair, block)?;
-            if n == *count {
-                *count += 1;
-            }
+            parts::load_at(s, &kept, count, n, pair, block)?;
+            let count = if n == count { count + 1 } else { count };
+            *state = State::Filling { kept, count };
             Ok(Reply::Done)
         }
         (State::Filling { kept, count }, Call::Begin) => {
-            if *count < kept.plan.size() {
+            if count < kept.plan.size() {
                 return Err(Refusal::Short);
             }
-            *state = parts::progress(*kept, 0);
+            *state = parts::progress(kept, 0);
             Ok(Reply::Done)
         }
         (State::Running { kept, done }, Call::Advance) => {
-            parts::advance_at(s, kept, *done, block)?;
-            *state = parts::progress(*kept, *done + 1);
+            parts::advance_at(s, &kept, done, block)?;
+            *state = parts::progress(kept, done + 1);
             Ok(Reply::Done)
         }
         (State::Finished { kept }, Call::Line { k }) => {
-            let line = parts::line_at(s, kept, k, block)?;
+            let line = parts::line_at(s, &kept, k, block)?;
             Ok(Reply::Opened(line))
         }
         (State::Filling { kept, .. }, Call::Restart)
         | (State::Running { kept, .. }, Call::Restart)
         | (State::Finished { kept }, Call::Restart) => {
-            *state = State::Filling {
-                kept: *kept,
-                count: 0,
-            };
+            *state = State::Filling { kept, count: 0 };
             Ok(Reply::Done)
         }
         _ => Err(Refusal::Moment),
