@@ -133,3 +133,7 @@ module _ {N : Type 0} (m : Meaning N) (ok : Sound m) where
         last = run-last m Idle start cs (h .after) st bl (h .runs);
         right = subst (λ (xs : Answers). AllRight m [] cs xs) (h .answers) (all-right start [] Idle start (refl, refl) cs (h .after) runs);
       }
+
+-- a run ends with a block that equals its last
+pub run-ends : {N : Type 0} {m : Meaning N} {start : Pairs N} {cs : List (Call N)} {rs : Answers} {bl bl' : Pairs N} → RunOf m start cs rs bl → bl' ≡ bl → RunOf m start cs rs bl'
+run-ends h e = record { after = h .after; runs = h .runs; answers = h .answers; last = h .last ∙ sym e; right = h .right }
