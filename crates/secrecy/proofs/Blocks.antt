@@ -101,8 +101,8 @@ module _ (m : Meaning (Halves ℕ)) where
   sound-from xs (suc k) i j e a b =
       let later = malformedFrom m xs (suc i) k in
       elim (native.Mathlib.Decide.decLe (suc i) j) [
-        yes g ↦ sound-from xs k (suc i) j (sound-later (soundAt m xs i) i later e) g (omega arith)
-      | no g ↦ let q : i ≡ j = omega arith in rw (← q) (sound-both (soundAt m xs i) i later e)
+        | yes g ↦ sound-from xs k (suc i) j (sound-later (soundAt m xs i) i later e) g (omega arith)
+        | no g ↦ let q : i ≡ j = omega arith in rw (← q) (sound-both (soundAt m xs i) i later e)
       ]
 
   pub sound-below : (xs : Pairs (Halves ℕ)) (k : ℕ) → firstMalformed m xs k ≡ None → (j : ℕ) → j < k → soundAt m xs j ≡ true

@@ -4,3 +4,10 @@ pub mod Stages
 pub mod Steps
 pub mod Masks
 pub mod Runs
+pub mod Mixing
+pub mod Making
+pub mod Following
+pub mod Secrecy
+pub mod Words
+pub mod Totality
+pub mod Guards

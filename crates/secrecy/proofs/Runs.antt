@@ -29,7 +29,7 @@ use Rattle.states.specs.declared.Reply.{Reply}
 use Rattle.states.specs.Step.{Pairs, Step, StepBy, Declined, Accepted, unless}
 use Rattle.states.specs.History.{Numbers, planAfter}
 use Rattle.secrecy.specs.Secrecy.{After, Answers, answersOf, Run, loaded, InScale, SampleFirst, SecondSamples, hiddenPair, hiddenPairs, bringing, replacedFirst, replaced, SealedAs, SealedUnder, SealedFirst, AllSealed, WordsBelow, AllSame, SameToHouse}
-use Rattle.secrecy.specs.Masks.{words, masksFirst, masks}
+use Rattle.secrecy.specs.Masks.{words, masks}
 use Rattle.secrecy.proofs.Blocks.{Pair, shares, known, Alike, alike-held}
 use Rattle.secrecy.proofs.Stages.{and-first, and-second}
 use Rattle.secrecy.proofs.Steps.{InForce, Tied, tied-step, AlikeLoad, Same, step-same}
@@ -178,6 +178,7 @@ module _ (n : ℕ) (modulus : isModulus n ≡ true) (h : Bool) where
       go : (f : Next n h p c cs (u .answer) (answersOf ts) zs) (us : List (After (Halves ℕ))) → Run (shares n) st ys (bringing (f .pair) c ∷ replaced cs (answersOf ts) (hiddenPairs n (f .later) (masks n h cs (answersOf ts) (f .later)))) us → ((vs : List (After (Halves ℕ))) (bl : Pairs (Halves ℕ)) → Alike n h (u .block) bl → Run (shares n) (k .0) bl (replaced cs (answersOf ts) (hiddenPairs n (f .later) (masks n h cs (answersOf ts) (f .later)))) vs → AllSame h ts vs) → AllSame h (u ∷ ts) us
       go f [] l more = absurd l
       go f (v ∷ vs) l more =
-          let same = step-same n (split-sound n modulus) h p xs ys e (u .answer) (v .answer) (k .0) (l .0) (u .block) (v .block) c (f .pair) st t (f .alike) (k .1) (l .1) in
-          (record { declined = same .refusal; held = alike-held n h (u .block) (v .block) (same .blocks) },
-          more vs (v .block) (same .blocks) (subst (λ (s' : State). Run (shares n) s' (v .block) (replaced cs (answersOf ts) (hiddenPairs n (f .later) (masks n h cs (answersOf ts) (f .later)))) vs) (sym (same .state)) (l .2)))
+          let same = step-same n (split-sound n modulus) h p xs ys e (u .answer) (v .answer) (k .0) (l .0) (u .block) (v .block) c (f .pair) st t (f .alike) (k .1) (l .1) in (
+            record { declined = same .refusal; held = alike-held n h (u .block) (v .block) (same .blocks) },
+            more vs (v .block) (same .blocks) (subst (λ (s' : State). Run (shares n) s' (v .block) (replaced cs (answersOf ts) (hiddenPairs n (f .later) (masks n h cs (answersOf ts) (f .later)))) vs) (sym (same .state)) (l .2)),
+          )

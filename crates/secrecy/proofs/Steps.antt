@@ -60,14 +60,14 @@ tied-progress n p kept t f l = go (eqb t (stagesFor (kept .plan))) refl
     go true e = f
     go false e = (f, let d = eqb-false t (stagesFor (kept .plan)) e in omega arith)
 
-none-some : {A : Type 0} (x : A) → Some x ≡ None → ⊥
+pub none-some : {A : Type 0} (x : A) → Some x ≡ None → ⊥
 none-some x e = let z : _≡_ {A = ℕ} 0 1 = cc in omega arith
 
 unless-holds : (b : Bool) (x : Refusal) (later : Option Refusal) → unless b x later ≡ None → b ≡ true
 unless-holds true x later e = refl
 unless-holds false x later e = absurd (none-some x e)
 
-unless-later : (b : Bool) (x : Refusal) (later : Option Refusal) → unless b x later ≡ None → later ≡ None
+pub unless-later : (b : Bool) (x : Refusal) (later : Option Refusal) → unless b x later ≡ None → later ≡ None
 unless-later true x later e = e
 unless-later false x later e = absurd (none-some x e)
 
@@ -75,7 +75,7 @@ first-later : (o later : Option Refusal) → first o later ≡ None → later �
 first-later None later e = e
 first-later (Some x) later e = absurd (none-some x e)
 
-malformed-none : (o : Option ℕ) → malformed o ≡ None → o ≡ None
+pub malformed-none : (o : Option ℕ) → malformed o ≡ None → o ≡ None
 malformed-none None e = refl
 malformed-none (Some i) e = absurd (none-some (Malformed i) e)
 
