@@ -1,5 +1,5 @@
 -- What the parts of a call answer: declined as the step says, with the block as it was, or done.
-use Prim.Native.Nat.{ℕ}
+use Prim.Native.Nat.{ℕ, _≤_, _<_}
 use mathlib.Core.Path.{_≡_}
 use mathlib.Core.List.{[]}
 use lib.ListN.{set}
@@ -7,6 +7,7 @@ use Rattle.std.specs.declared.option.Option.the-variants.{Some, None}
 use Rattle.std.specs.declared.result.Result.{Result}
 use Rattle.std.specs.declared.result.Result.the-variants.{Ok, Err}
 use Rattle.refusal.specs.declared.kinds.Refusal.{Refusal}
+use Rattle.refusal.specs.declared.kinds.Refusal.the-variants.{Short}
 use Rattle.plan.specs.declared.method.Method.{Method}
 use Rattle.plan.specs.declared.plan.Plan.{Plan}
 use Rattle.plan.specs.Making.{Has}
@@ -14,15 +15,21 @@ use Rattle.lines.specs.Places.{placeOf}
 use Rattle.scheme.specs.Meaning.{Meaning}
 use Rattle.scheme.specs.Hidden.{StandsPair}
 use Rattle.states.specs.declared.Kept.{Kept}
+use Rattle.states.specs.declared.State.{State}
 use Rattle.states.specs.declared.State.the-variants.{Filling, Running, Finished}
 use Rattle.states.specs.declared.Call.the-variants.{Load, Advance, Line as LineCall}
 use Rattle.states.specs.declared.Line.{Line}
-use Rattle.states.specs.Step.{Pairs, planDeclined, declined, lineMalformed, lineRead, stated, StageDone}
+use Rattle.states.specs.Step.{Pairs, planDeclined, declined, lineMalformed, lineRead, progress, stated, StageDone}
 
 -- the plan of these numbers, with the modulus, where it is not declined
 abbrev pub Planning : {N : Type 0} → Meaning N → Pairs N → Method → ℕ → ℕ → ℕ → Result Kept Refusal → Type 0
 Planning m bl k size q1 q2 (Ok kept) = (planDeclined m bl k size q1 q2 ≡ None) × Has (kept .plan) k size q1 q2 × (kept .modulus ≡ m .modulus)
 Planning m bl k size q1 q2 (Err x) = planDeclined m bl k size q1 q2 ≡ Some x
+
+-- the state after no stage, where every sample is loaded
+abbrev pub Beginning : Kept → ℕ → Result State Refusal → Type 0
+Beginning kept count (Ok st) = (kept .plan .size ≤ count) × (st ≡ progress kept 0)
+Beginning kept count (Err x) = (count < kept .plan .size) × (x ≡ Short)
 
 -- the pair at the place of sample n, where it is not declined
 abbrev pub Loading : {N : Type 0} → Meaning N → Kept → ℕ → ℕ → N × N → Pairs N → Pairs N → Result (Unit {0}) Refusal → Type 0

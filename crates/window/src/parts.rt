@@ -5,7 +5,7 @@ ghost use Prim.Native.Nat.{ℕ, _<_, _≤_};
 ghost use lib.ListN.{length, getD, set};
 ghost use Rattle.stages.specs.Block.{wellFormed};
 ghost use Rattle.states.specs.Step.{progress as progressOf, stagesFor};
-ghost use Rattle.window.specs.Parts.{Planning, Loading, Advancing, Reading, Opening};
+ghost use Rattle.window.specs.Parts.{Beginning, Planning, Loading, Advancing, Reading, Opening};
 use plan::Method;
 use plan::Plan;
 use refusal::Refusal;
@@ -64,6 +64,16 @@ pub(crate) fn progress(kept: Kept, done: usize) -> State
     } else {
         State::Running { kept, done }
     }
+}
+
+// The state after a beginning with `count` samples loaded, or Short.
+pub(crate) fn begun(kept: Kept, count: usize) -> Result<State, Refusal>
+    ensures { λ r. ⌜ Beginning kept count r ⌝ }
+{
+    if count < kept.plan.size() {
+        return Err(Refusal::Short);
+    }
+    Ok(progress(kept, 0))
 }
 
 // The plan of these numbers and the scheme's modulus, or why they are declined.

@@ -43,10 +43,7 @@ pub(crate) fn step<S: Scheme>(
             Ok(Reply::Done)
         }
         (State::Filling { kept, count }, Call::Begin) => {
-            if count < kept.plan.size() {
-                return Err(Refusal::Short);
-            }
-            *state = parts::progress(kept, 0);
+            *state = parts::begun(kept, count)?;
             Ok(Reply::Done)
         }
         (State::Running { kept, done }, Call::Advance) => {

@@ -31,23 +31,6 @@ returns-in-Continue-kept g c =
       frame = c .plan-for .ensures .frame;
     }
 
-pub returns-else-count-size : need.returns-else-count-size
-returns-else-count-size g c =
-    let m = g .S·Scheme .meaning (c .args .s .now) in
-    let kept = c .in-Filling-Begin .kept in
-    let bl = c .args .block .now in
-    let st = c .args .state .now in
-    let r = c .progress .result in
-    let f = filling-fits (length bl) st kept (c .in-Filling-Begin .count) (c .in-Filling-Begin .is-0) (c .pre) in
-    let l : kept .plan .size ≤ c .in-Filling-Begin .count = omega (arith, c .size .ensures, c .if-count-size .left) in
-    record {
-      step =
-          subst (λ k. Step m st bl k (Ok Done) r bl) (sym (c .in-Filling-Begin .is-1))
-          (begun m st bl kept (c .in-Filling-Begin .count) r (c .in-Filling-Begin .is-0) l (c .progress .ensures));
-      fits = subst (λ s. fits (length bl) s ≡ true) (sym (c .progress .ensures)) (progress-fits (length bl) kept 0 (f .0) (omega arith));
-      frame = refl;
-    }
-
 pub returns-in-Continue-advance-at : need.returns-in-Continue-advance-at
 returns-in-Continue-advance-at g c =
     let m = g .S·Scheme .meaning (c .args .s .now) in
@@ -56,7 +39,7 @@ returns-in-Continue-advance-at g c =
     let bl = c .args .block .now in
     let after = c .advance-at .last .block in
     let st = c .args .state .now in
-    let r = c .progress-in-Running-Advance .result in
+    let r = c .progress .result in
     let f = running-fits (length bl) st kept t (c .in-Running-Advance .is-0) (c .pre) in
     let h = c .in-Continue-advance-at .ensures tt .value in
     let l : kept .plan .size ≤ length after = omega (arith, f .0, h .1 .long) in
@@ -64,7 +47,24 @@ returns-in-Continue-advance-at g c =
     record {
       step =
           subst (λ k. Step m st bl k (Ok Done) r after) (sym (c .in-Running-Advance .is-1))
-          (advanced m st bl kept t r after (c .in-Running-Advance .is-0) h (c .progress-in-Running-Advance .ensures));
-      fits = subst (λ s. fits (length after) s ≡ true) (sym (c .progress-in-Running-Advance .ensures)) (progress-fits (length after) kept (t + 1) l d);
+          (advanced m st bl kept t r after (c .in-Running-Advance .is-0) h (c .progress .ensures));
+      fits = subst (λ s. fits (length after) s ≡ true) (sym (c .progress .ensures)) (progress-fits (length after) kept (t + 1) l d);
       frame = c .advance-at .ensures .frame;
+    }
+
+pub returns-in-Continue-state : need.returns-in-Continue-state
+returns-in-Continue-state g c =
+    let m = g .S·Scheme .meaning (c .args .s .now) in
+    let kept = c .in-Filling-Begin .kept in
+    let bl = c .args .block .now in
+    let st = c .args .state .now in
+    let r = c .in-Continue-state .field-0 in
+    let h = c .in-Continue-state .ensures tt in
+    let f = filling-fits (length bl) st kept (c .in-Filling-Begin .count) (c .in-Filling-Begin .is-0) (c .pre) in
+    record {
+      step =
+          subst (λ k. Step m st bl k (Ok Done) r bl) (sym (c .in-Filling-Begin .is-1))
+          (begun m st bl kept (c .in-Filling-Begin .count) r (c .in-Filling-Begin .is-0) (h .0) (h .1));
+      fits = subst (λ s. fits (length bl) s ≡ true) (sym (h .1)) (progress-fits (length bl) kept 0 (f .0) (omega arith));
+      frame = refl;
     }
