@@ -3,6 +3,7 @@ ghost use mathlib.Core.Path.{_≡_};
 ghost use Rattle.std.specs.Of.Vec.{vec-items};
 ghost use Rattle.std.specs.Vec.{made};
 ghost use Rattle.runs.specs.Runs.{RunOf};
+ghost use Rattle.secrecy.specs.Secrecy.{SecrecyStands};
 use refusal::Refusal;
 use scheme::Scheme;
 use states::Call;
@@ -19,6 +20,7 @@ pub fn run<S: Scheme>(
     heap: Global,
 ) -> Result<Vec<Result<Reply, Refusal>>, AllocError>
     ensures run { λ r. ⌜ made r (λ v. RunOf (meaning (now (s .entry))) (now (block .entry)) (now (calls .entry)) (vec-items v) (now (block .exit))) ⌝ }
+    ensures houses { λ _. ⌜ SecrecyStands ⌝ }
     ensures frame { λ _. ⌜ meaning (now (s .exit)) ≡ meaning (now (s .entry)) ⌝ }
 {
     let mut window = Window::new(block);

@@ -23,7 +23,7 @@ use Rattle.lines.proofs.Places.{place-below, place-group, place-offset, place-e
 use Rattle.scheme.specs.Meaning.{Meaning, Sound, View}
 use Rattle.scheme.specs.Hidden.{Stands, StandsPair, readPair}
 use Rattle.split.specs.declared.halves.Halves.{Halves}
-use Rattle.stages.specs.Block.{sound, soundAt}
+use Rattle.stages.specs.Block.{wellFormed as sound, wellFormedAt as soundAt}
 use Rattle.stages.specs.Stage.{entries}
 use Rattle.stages.proofs.Blocks.{sound-there}
 use Rattle.states.specs.Step.{Pairs, StageDone, stagesFor, firstMalformed}

@@ -9,6 +9,7 @@ use Rattle.std.specs.Of.Vec.{vec-items}
 use Rattle.std.proofs.shelf.Lists.{take-more, take-all}
 use Rattle.scheme.specs.Meaning.{Meaning}
 use Rattle.states.specs.Step.{Step}
+use Rattle.secrecy.proofs.Secrecy.{secrecy-stands}
 use Rattle.runs.specs.Runs.{RunOf}
 use Rattle.runs.proofs.Running.{SoFar, sofar-more, run-whole, run-ends}
 use Rattle.runs.proofs.run.Needs as need
@@ -36,4 +37,8 @@ returns g c =
     let whole : RunOf (g .S·Scheme .meaning (now (c .args .s))) (now (c .args .block)) (now (c .args .calls)) (vec-items (c .loop-call .answers)) (now (c .loop-call .window .block)) =
     rw start at (run-whole (g .S·Scheme .meaning (now (c .args .s))) (g .S·Scheme·met .sound (now (c .args .s))) _ _ _ _ _ so) in
     let named = sym (c .loop-call .inv .2 ∙ c .new-window .ensures .lender) in
-    record { run = run-ends whole (search needs); frame = frame }
+    record { run = run-ends whole (search needs); houses = secrecy-stands; frame = frame }
+
+-- where memory fails
+pub returns-in-Break-push : need.returns-in-Break-push
+returns-in-Break-push g c = record { run = search needs; houses = secrecy-stands; frame = search needs }
