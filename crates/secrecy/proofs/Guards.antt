@@ -17,7 +17,7 @@ use Rattle.plan.specs.declared.method.Method.the-variants.{Direct}
 use Rattle.plan.specs.declared.plan.Plan.{Plan}
 use Rattle.lines.specs.Lines.{sumBelow, directLine}
 use Rattle.split.specs.declared.halves.Halves.{Halves}
-use Rattle.stages.specs.Block.{soundAt, readAt}
+use Rattle.stages.specs.Block.{wellFormedAt as soundAt, readAt}
 use Rattle.states.specs.declared.Kept.{Kept}
 use Rattle.states.specs.declared.State.the-variants.{Idle, Filling, Finished}
 use Rattle.states.specs.declared.Reply.the-variants.{Done, Opened}
