@@ -48,7 +48,7 @@ fn print_card(rt: &impl Print, request: Request) -> io::Result<()> {
 }
 
 // The cards of a few plans, lawful and not.
-pub fn print_cards(rt: &impl Print) -> io::Result<()> {
+pub(crate) fn print_cards(rt: &impl Print) -> io::Result<()> {
     println!(rt, "Plan cards for the modulus {MODULUS}\n")?;
     let requests = [
         Request::new(Method::Direct, 4, 10, 5),

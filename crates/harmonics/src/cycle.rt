@@ -194,7 +194,7 @@ fn print_masks(
 }
 
 // The whole way of one cycle.
-pub fn print_cycle(rt: &(impl Print + Alloc<A = Global>)) -> Result<(), AnyError> {
+pub(crate) fn print_cycle(rt: &(impl Print + Alloc<A = Global>)) -> Result<(), AnyError> {
     let Ok(plain) = Plain::new(WIDE) else {
         return Ok(());
     };
@@ -235,7 +235,7 @@ fn seal_first<S: Scheme>(s: &mut S, sealed: &mut [(S::Number, S::Number)]) {
 }
 
 // What the houses could not tell.
-pub fn print_unknown(rt: &(impl Print + Alloc<A = Global>)) -> Result<(), AnyError> {
+pub(crate) fn print_unknown(rt: &(impl Print + Alloc<A = Global>)) -> Result<(), AnyError> {
     let Ok(plain) = Plain::new(WIDE) else {
         return Ok(());
     };

@@ -14,7 +14,7 @@ use system::System;
 use system::SystemScheme;
 
 // One sample from the meter to the reader, under the split: what each house holds, and what opens.
-pub fn print_split_sample(rt: &impl Print, sample: i64, word: u64) -> io::Result<()> {
+pub(crate) fn print_split_sample(rt: &impl Print, sample: i64, word: u64) -> io::Result<()> {
     let Ok(plain) = Plain::new(MODULUS) else {
         return Ok(());
     };
@@ -38,7 +38,7 @@ pub fn print_split_sample(rt: &impl Print, sample: i64, word: u64) -> io::Result
 }
 
 // The same sample as three residues.
-pub fn print_system_sample(rt: &impl Print, sample: i64) -> io::Result<()> {
+pub(crate) fn print_system_sample(rt: &impl Print, sample: i64) -> io::Result<()> {
     let Ok(mut scheme) = System::new(79, 83, 89) else {
         return Ok(());
     };
