@@ -3,6 +3,7 @@ ghost use mathlib.Core.Path.{_≡_};
 ghost use Rattle.std.specs.Of.Vec.{vec-items};
 ghost use Rattle.std.specs.Vec.{made};
 ghost use denote.Ref.{name};
+ghost use Rattle.runs.specs.Guards.{OneRun, SealedSamplesWithin};
 ghost use Rattle.runs.specs.Runs.{RunOf, Noted};
 ghost use Rattle.secrecy.specs.Secrecy.{SecrecyStands};
 use refusal::Refusal;
@@ -46,4 +47,19 @@ pub fn run<S: Scheme>(
         note(&mut window, s, *call, &mut answers)?;
     }
     Ok(answers)
+}
+
+// A pair that was sealed under a limit means the sample that was sealed, which lies within the limit: so every line that is opened
+// over such samples is right, where the limit is the plan's sample scale. The answer says nothing; the contract is the theorem.
+pub fn sealed_samples_are_within<N>() -> u8
+    ensures { λ _. ⌜ SealedSamplesWithin N ⌝ }
+{
+    0
+}
+
+// There is a run that opens a line.
+pub fn one_run_opens_a_line() -> u8
+    ensures { λ _. ⌜ OneRun ⌝ }
+{
+    0
 }
