@@ -1,4 +1,4 @@
-"""The definitions of the circle and of plans, from docs/GUIDE.md and not from our code.
+"""The definitions of the circle and of plans, from the rules that docs/GUIDE.md states.
 
 Every number here is a Python integer; nothing is shared with the crates.
 """
