@@ -1,5 +1,7 @@
 // Times a whole 256-point radix-4 transform on hidden samples. Without an argument it does one
 // transform under each scheme and prints a checksum; with a number of rounds it prints times too.
+#![tactic(auto)]
+
 use anyhow::anyhow;
 use integers::Complex;
 use plain::Plain;

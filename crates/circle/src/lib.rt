@@ -1,5 +1,7 @@
 // The circle in whole numbers: cosines and sines times 2^30, twiddles of any scale, the spread of a scale.
 // Angles are counted in 256ths of a turn.
+#![tactic(auto)]
+
 ghost use Rattle.std.specs.Prelude.{◌≡◌, ◌-◌, ◌*◌, ◌^◌, ◌<◌, ◌≤◌, pos, ◌*ℤ◌, unsigned_abs};
 ghost use Rattle.circle.specs.Circle.{circle, mirrored, cosine as cosineOf, sine as sineOf, in_quarter, CircleDetermined};
 ghost use Rattle.circle.specs.Nearest.{NearestQuotient, NearestSigned};

@@ -1,4 +1,6 @@
 // The console's language: from the bytes of its input to commands, and from answers to text.
+#![tactic(auto)]
+
 mod decoding;
 mod fields;
 mod input;

@@ -1,4 +1,6 @@
 // The console: commands from standard input, one reply a line to standard output.
+#![tactic(auto)]
+
 mod help;
 
 use anyhow::anyhow;

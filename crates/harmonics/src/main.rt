@@ -1,6 +1,8 @@
 // The real task, as far as it goes: prints what the lines of some plans mean before a meter is
 // fitted, shows one sample on its way, takes one cycle of a feeder current through the window while it
 // stays hidden, and prints the masks under which a house would have seen the same for another curve.
+#![tactic(auto)]
+
 mod cards;
 mod cycle;
 mod sample;

@@ -1,5 +1,7 @@
 // One cycle of a tenant's current on its whole way: the meter hides the samples, two analysis houses transform what they cannot
 // read, and the tenant's reader opens the lines and divides by the scale that each is stated with.
+#![tactic(auto)]
+
 mod cards;
 mod decimals;
 mod example;

@@ -1,4 +1,6 @@
 // Whole numbers: complex ones, and residues modulo an odd number.
+#![tactic(auto)]
+
 ghost use Rattle.std.specs.Prelude.{◌≡◌, ◌+◌, ◌%◌, ◌<◌};
 ghost use Rattle.integers.specs.Residue.{residue, centred, half as half_of, ResidueStands, CentredStands};
 ghost use Rattle.integers.specs.Modulus.{Made};

@@ -1,4 +1,6 @@
 // Lines: the transforms over whole numbers, and theorems about them, each on the contract of a function.
+#![tactic(auto)]
+
 ghost use Rattle.lines.specs.Examples.{LineFigures};
 ghost use Rattle.lines.specs.Laws.{LinesBounded, LinesMeant, LinesNear};
 ghost use Rattle.lines.specs.Places.{PlacesStand, RunsExist, StagesCompose};

@@ -1,4 +1,6 @@
 // Plain residues: the scheme whose numbers are the residues themselves. Other schemes stand on it.
+#![tactic(auto)]
+
 ghost use Rattle.std.specs.Prelude.{◌≡◌};
 ghost use Rattle.plain.specs.Made.{Makes};
 ghost use Rattle.plain.specs.Residues.{residues};

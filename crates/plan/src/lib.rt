@@ -1,4 +1,6 @@
 // Plans: which transform, of which size, at which scales; and what its lines mean.
+#![tactic(auto)]
+
 mod figures;
 mod laws;
 mod making;

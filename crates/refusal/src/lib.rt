@@ -1,4 +1,6 @@
 // Every refusal of the product, with its number, its word and the value that it carries.
+#![tactic(auto)]
+
 ghost use Rattle.std.specs.Prelude.{◌≡◌, Some};
 ghost use Rattle.refusal.specs.Row.{row, text, Distinct};
 

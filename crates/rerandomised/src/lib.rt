@@ -1,5 +1,7 @@
 // A scheme as a customer might write one, outside the library: it keeps books and answers another
 // number for the same sum every second time.
+#![tactic(auto)]
+
 ghost use Rattle.std.specs.Prelude.{◌≡◌};
 ghost use Rattle.rerandomised.specs.Twofold.{twofold, Makes};
 ghost use Rattle.std.proofs.Common.{rules};

@@ -1,4 +1,6 @@
 // The law on opened lines, over every list of calls of a window.
+#![tactic(auto)]
+
 ghost use Rattle.states.specs.History.{OpenedLinesAreRight};
 
 // Under every meaning of a scheme with the numbers N, after every list of calls on a new window over any block: the components of an

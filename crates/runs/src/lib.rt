@@ -1,4 +1,6 @@
 // Runs of lists of calls on a new window, with the laws on them.
+#![tactic(auto)]
+
 ghost use Rattle.std.specs.Prelude.{◌≡◌, IfOk, OnOk};
 ghost use Rattle.runs.specs.Guards.{OneRun, OneWrong, Reaches, SealedLinesRight, SealedSamplesWithin};
 ghost use Rattle.runs.specs.Runs.{RunOf, Noted};

@@ -1,4 +1,6 @@
 // Schemes: ways of hiding whole numbers modulo N, and what is done alike under every one of them.
+#![tactic(auto)]
+
 mod calls;
 mod hidden;
 pub mod pairs;

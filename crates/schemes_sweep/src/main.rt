@@ -1,5 +1,7 @@
 // Prints what each scheme answers at the ends of its range, one call a line, to be compared with an
 // independent calculation. One generic function serves every scheme.
+#![tactic(auto)]
+
 use plain::Plain;
 use refusal::Refusal;
 use rerandomised::Rerandomised;

@@ -1,4 +1,6 @@
 // What a house may learn from the numbers that it holds: not the samples.
+#![tactic(auto)]
+
 ghost use Rattle.std.specs.Prelude.{◌≡◌, IfOk};
 ghost use Rattle.secrecy.specs.Guards.{SecrecySpeaks};
 ghost use Rattle.secrecy.specs.Masks.{Serve, side, word, words, words_of};

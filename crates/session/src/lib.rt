@@ -1,4 +1,6 @@
 // A session of the console: from the bytes of its input to the bytes of its output.
+#![tactic(auto)]
+
 mod making;
 mod replies;
 mod schemes;

@@ -1,4 +1,6 @@
 // The split: a scheme on top of any scheme, itself included. A number is two numbers below, each of which a party of its own may hold.
+#![tactic(auto)]
+
 ghost use Rattle.std.specs.Prelude.{◌≡◌, true, ◌&&◌};
 ghost use Rattle.scheme.specs.Meaning.{Zero, Sum, Opposite, Seals, hides};
 ghost use Rattle.split.specs.Shares.{split, ZeroHalves, SumHalves, OppositeHalves, SealsHalves};

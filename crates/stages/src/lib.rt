@@ -1,5 +1,7 @@
 // Transforms on lent blocks of hidden pairs, under every scheme: the place of a sample, the search for a malformed pair, one stage,
 // one direct line.
+#![tactic(auto)]
+
 mod block;
 mod butterfly;
 mod direct;

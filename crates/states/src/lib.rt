@@ -1,5 +1,7 @@
 // The window's states, its calls and its answers, and what each call does: the definitions that the
 // window keeps and that the laws over lists of calls speak of.
+#![tactic(auto)]
+
 use plan::{Method, Plan};
 
 // The plan in force and the modulus that it was made for.

@@ -1,5 +1,7 @@
 // Prints the circle, twiddles at several scales, and the figures of every lawful size at the ends of
 // both scales, one number set a line, to be compared with an independent calculation.
+#![tactic(auto)]
+
 use circle::{cosine, fine_twiddle, sine, spread, twiddle};
 use integers::Complex;
 use plan::{Figures, Method, Plan};

@@ -1,4 +1,6 @@
 // The residue system: a whole number hidden as its remainders modulo three odd numbers, no two with a common factor.
+#![tactic(auto)]
+
 mod arithmetic;
 mod calls;
 mod euclid;

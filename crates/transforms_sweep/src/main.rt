@@ -1,5 +1,7 @@
 // Transforms hidden samples by every method at every lawful size and prints each opened line, to be
 // compared with an independent calculation.
+#![tactic(auto)]
+
 use integers::Complex;
 use plain::Plain;
 use plan::{Method, Plan};

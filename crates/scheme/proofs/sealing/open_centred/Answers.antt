@@ -8,7 +8,7 @@ pub returns : goal.returns
 returns g c =
     let s = g.S.Scheme.meaning c.args.s.now in
     let f : g.S.Scheme.meaning c.modulus-of-modulus.new.s ≡ s = c.modulus-of-modulus.ensures.frame in
-    let fits : SFits w64 c.centred.result = record { sfits = c.centred.type-inv } in
+    let fits : SFits w64 c.centred.result = record { sfits = c.centred.type_inv } in
     let n : c.modulus-of-modulus.result.n ≡ s.modulus = c.modulus-of-modulus.ensures.value in
     record {
       value =

@@ -11,7 +11,7 @@ returns g c =
     let s = g.S.Scheme.meaning c.args.s.now in
     let k = g.met.S.Scheme.sound c.args.s.now in
     let x = c.in-ok-x.x in
-    let fits : SFits w64 c.open-centred.result = record { sfits = c.open-centred.type-inv } in
+    let fits : SFits w64 c.open-centred.result = record { sfits = c.open-centred.type_inv } in
     let f : g.S.Scheme.meaning c.seal.new.self ≡ s = c.in-ok-x.ensures.frame in
     let m : Sealed s c.args.m c.args.word x = rw (to_z-of_z w64 c.args.m c.ranges.m) at c.in-ok-x.ensures.value in
     let o : s.wf x ≡ true → c.open-centred.result ≡ means s x = rw f at c.open-centred.ensures.value in

@@ -10,7 +10,7 @@ pub unreachable-requires : goal.unreachable-requires
 unreachable-requires g c =
     let s = g.S.Scheme.meaning c.args.s.now in
     let k = g.met.S.Scheme.sound c.args.s.now in
-    let fits : SFits w64 c.centred.result = record { sfits = c.centred.type-inv } in
+    let fits : SFits w64 c.centred.result = record { sfits = c.centred.type_inv } in
     let f : g.S.Scheme.meaning c.modulus-of-modulus.new.s ≡ s = c.modulus-of-modulus.ensures.frame in
     let z : 0 < s.modulus = omega (arith, k.least) in
     let r = c.args.r % s.modulus in
@@ -24,7 +24,7 @@ pub returns : goal.returns
 returns g c =
     let s = g.S.Scheme.meaning c.args.s.now in
     let k = g.met.S.Scheme.sound c.args.s.now in
-    let fits : SFits w64 c.centred.result = record { sfits = c.centred.type-inv } in
+    let fits : SFits w64 c.centred.result = record { sfits = c.centred.type_inv } in
     let f : g.S.Scheme.meaning c.modulus-of-modulus.new.s ≡ s = c.modulus-of-modulus.ensures.frame in
     let z : 0 < s.modulus = omega (arith, k.least) in
     let r = c.args.r % s.modulus in

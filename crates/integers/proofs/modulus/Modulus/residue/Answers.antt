@@ -4,6 +4,6 @@ use Rattle.integers.proofs.modulus.Modulus.residue.Goals as goal
 
 pub returns : goal.returns
 returns c =
-    let f : SFits w64 c.rem-euclid.result = record { sfits = c.rem-euclid.type-inv } in
+    let f : SFits w64 c.rem_euclid.result = record { sfits = c.rem_euclid.type_inv } in
     let n : c.args.self.n < 2 ^ 63 = omega arith in
     search residue_read
