@@ -10,12 +10,12 @@ pub loop-init : goal.loop-init
 unfolding turned
 loop-init c = complex_same _ _ _ _ (omega (arith, ints)) (omega (arith, ints))
 
-pub quarter-turn-x-requires : goal.quarter-turn-x-requires
-quarter-turn-x-requires c =
+pub quarter_turn-x-requires : goal.quarter_turn-x-requires
+quarter_turn-x-requires c =
     turned_sizes c.args.u c.loop.counter c.quarter-cos.result c.loop.x c.quarter-cos.ensures c.loop.invariant
 
 pub loop-preserved : goal.loop-preserved
-loop-preserved c = c.quarter-turn-x.ensures ∙ ap quarter_turn_of c.loop.invariant ∙ turned_next c.loop.counter _
+loop-preserved c = c.quarter_turn-x.ensures ∙ ap quarter_turn_of c.loop.invariant ∙ turned_next c.loop.counter _
 
 pub returns : goal.returns
 returns c =

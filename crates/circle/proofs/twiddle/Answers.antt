@@ -5,12 +5,12 @@ use Rattle.circle.proofs.twiddle.Goals as goal
 
 pub returns : goal.returns
 returns c =
-    let re : SFits w64 c.fine-twiddle-re.result.re = search rules in
-    let im : SFits w64 c.fine-twiddle-re.result.im = search rules in
-    let a : SFits w64 c.nearest-part.result = search rules in
-    let b : SFits w64 c.nearest-part-2.result = search rules in
+    let re : SFits w64 c.fine_twiddle-re.result.re = search rules in
+    let im : SFits w64 c.fine_twiddle-re.result.im = search rules in
+    let a : SFits w64 c.nearest_part.result = search rules in
+    let b : SFits w64 c.nearest_part-2.result = search rules in
     simp to_z-of_z
-    (twiddle_found c.args.scale c.args.u c.fine-twiddle-re.result c.nearest-part.result c.nearest-part-2.result
-    c.fine-twiddle-re.ensures.value
-    (simp to_z-of_z at c.nearest-part.ensures)
-    (simp to_z-of_z at c.nearest-part-2.ensures))
+    (twiddle_found c.args.scale c.args.u c.fine_twiddle-re.result c.nearest_part.result c.nearest_part-2.result
+    c.fine_twiddle-re.ensures.value
+    (simp to_z-of_z at c.nearest_part.ensures)
+    (simp to_z-of_z at c.nearest_part-2.ensures))

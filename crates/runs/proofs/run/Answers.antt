@@ -12,7 +12,7 @@ pub loop-call-preserved : goal.loop-call-preserved
 loop-call-preserved g c =
     let frame : g.S.Scheme.meaning c.note.new.s ≡ g.S.Scheme.meaning c.loop-call.s = c.note.ensures.frame in
     let noted : Noted (g.S.Scheme.meaning c.loop-call.s) c.loop-call.window.state c.loop-call.window.block.now (vec_items c.loop-call.answers) c.call-item.result c.note.new.window.state c.note.new.window.block.now (vec_items c.note.new.answers) =
-    c.in-ok-note.ensures.noted in
+    c.in_ok-note.ensures.noted in
     let answers : vec_items c.note.new.answers ≡ vec_items c.loop-call.answers ++ noted.answer ∷ [] = noted.noted in
     let low : c.loop-call.call-index < length c.args.calls.now = search rules in
     let taken : take (c.loop-call.call-index + 1) c.args.calls.now ≡ take c.loop-call.call-index c.args.calls.now ++ c.call-item.result ∷ [] =
@@ -35,5 +35,5 @@ returns g c =
     record { run = run_ends whole (search rules); houses = secrecy_stands; frame = frame }
 
 -- where memory fails
-pub returns-in-err-note : goal.returns-in-err-note
-returns-in-err-note g c = record { run = search rules; houses = secrecy_stands; frame = search rules }
+pub returns-in_err-note : goal.returns-in_err-note
+returns-in_err-note g c = record { run = search rules; houses = secrecy_stands; frame = search rules }

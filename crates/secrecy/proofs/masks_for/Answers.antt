@@ -19,9 +19,9 @@ loop-i-preserved c =
     let i : ℕ = c.loop-i.i in
     let a : i < length xs = omega (arith, c.min-count.ensures, c.loop-i-test.true) in
     let b : i < length zs = omega (arith, c.min-count.ensures, c.loop-i-test.true) in
-    c.in-ok-push.ensures.items
-    ∙ ap (λ (ws : List (ℕ × ℕ)). ws ++ c.mask-words.result ∷ []) c.loop-i.invariant
-    ∙ ap (λ (w : ℕ × ℕ). words_of n h (take i xs) (take i zs) ++ w ∷ []) c.mask-words.ensures
+    c.in_ok-push.ensures.items
+    ∙ ap (λ (ws : List (ℕ × ℕ)). ws ++ c.mask_words.result ∷ []) c.loop-i.invariant
+    ∙ ap (λ (w : ℕ × ℕ). words_of n h (take i xs) (take i zs) ++ w ∷ []) c.mask_words.ensures
     ∙ words_next n h xs zs i _ _ a b
     ∙ ap (λ (k : ℕ). words_of n h (take k xs) (take k zs)) (sym (add-one i))
 

@@ -2,17 +2,17 @@ use Rattle.std.proofs.Common.{rules}
 use Rattle.command.specs.Decoding.{system_of}
 use Rattle.command.proofs.decoding.read_system.Goals as goal
 
-pub returns-in-err-first : goal.returns-in-err-first
+pub returns-in_err-first : goal.returns-in_err-first
 unfolding system_of
-returns-in-err-first c = search rules
+returns-in_err-first c = search rules
 
-pub returns-in-err-second : goal.returns-in-err-second
+pub returns-in_err-second : goal.returns-in_err-second
 unfolding system_of
-returns-in-err-second c = search rules
+returns-in_err-second c = search rules
 
-pub returns-in-err-third : goal.returns-in-err-third
+pub returns-in_err-third : goal.returns-in_err-third
 unfolding system_of
-returns-in-err-third c = search rules
+returns-in_err-third c = search rules
 
 pub returns : goal.returns
 unfolding system_of

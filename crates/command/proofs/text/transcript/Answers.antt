@@ -15,7 +15,7 @@ pub loop-answer-preserved : goal.loop-answer-preserved
 loop-answer-preserved c =
     let x : Result Reply Refusal = get_or c.args.answers.now c.loop-answer.answer-index (Ok Done) in
     let before : string_bytes c.loop-answer.text ≡ transcript_of (take c.loop-answer.answer-index c.args.answers.now) = c.loop-answer.invariant in
-    let added : string_bytes c.push-str.new.self ≡ string_bytes c.loop-answer.text ++ line x = c.in-ok-push-str.ensures.bytes ∙ ap (λ (t : List ℕ). string_bytes c.loop-answer.text ++ t) (c.as-str.ensures.value ∙ c.in-ok-line.ensures.ok) in
+    let added : string_bytes c.push_str.new.self ≡ string_bytes c.loop-answer.text ++ line x = c.in_ok-push_str.ensures.bytes ∙ ap (λ (t : List ℕ). string_bytes c.loop-answer.text ++ t) (c.as_str.ensures.value ∙ c.in_ok-line.ensures.ok) in
     added ∙ (ap (λ (t : List ℕ). t ++ line x) before ∙ (flat_map_more line [] (take c.loop-answer.answer-index c.args.answers.now) x ∙ ap transcript_of (sym (take_more c.args.answers.now c.loop-answer.answer-index (Ok Done) c.loop-answer-test.true))))
 
 -- all of them

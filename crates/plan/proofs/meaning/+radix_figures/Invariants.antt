@@ -1,4 +1,4 @@
 use Rattle.plan.proofs.meaning.+radix_figures.Given as goal
 
-abbrev pub decreases-radix-figures : goal.decreases-radix-figures
-decreases-radix-figures l = l.size
+abbrev pub decreases-radix_figures : goal.decreases-radix_figures
+decreases-radix_figures l = l.size

@@ -9,14 +9,14 @@ returns-then-c-lt0 g c =
     let s = g.S.Scheme.meaning c.args.s.now in
     let k = g.met.S.Scheme.sound c.args.s.now in
     let f : g.S.Scheme.meaning c.repeated-r.new.s ≡ s = c.repeated-r.ensures.frame in
-    let e : c.args.c ≡ neg_ℤ (pos c.unsigned-abs.result) = omega (arith, ints) in
+    let e : c.args.c ≡ neg_ℤ (pos c.unsigned_abs.result) = omega (arith, ints) in
     let less = rw f at c.opposite.ensures.value in
     record {
       value =
           λ w v.
           let p = c.repeated-r.ensures.value w v in
           let o : Opposite s c.repeated-r.result c.opposite.result = search less in
-          turned_stands s k v c.args.c c.unsigned-abs.result c.args.x c.repeated-r.result c.opposite.result e p o;
+          turned_stands s k v c.args.c c.unsigned_abs.result c.args.x c.repeated-r.result c.opposite.result e p o;
       frame = c.opposite.ensures.frame ∙ f;
     }
 
@@ -24,8 +24,8 @@ pub returns-else-c-lt0 : goal.returns-else-c-lt0
 returns-else-c-lt0 g c =
     let s = g.S.Scheme.meaning c.args.s.now in
     let k = g.met.S.Scheme.sound c.args.s.now in
-    let e : c.args.c ≡ pos c.unsigned-abs.result = omega (arith, ints) in
+    let e : c.args.c ≡ pos c.unsigned_abs.result = omega (arith, ints) in
     record {
-      value = λ w v. upright_stands s k v c.args.c c.unsigned-abs.result c.args.x c.repeated-r.result e (c.repeated-r.ensures.value w v);
+      value = λ w v. upright_stands s k v c.args.c c.unsigned_abs.result c.args.x c.repeated-r.result e (c.repeated-r.ensures.value w v);
       frame = c.repeated-r.ensures.frame;
     }

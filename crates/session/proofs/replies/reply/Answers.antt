@@ -13,16 +13,16 @@ made_so (Err y) P Q f h = tt
 pub returns-then-input-gt-LIMIT : goal.returns-then-input-gt-LIMIT
 returns-then-input-gt-LIMIT c = record { replies = made_so c.transcript.result _ _ (λ t e. inr (c.if-input-gt-LIMIT.true, e)) c.transcript.ensures; houses = secrecy_stands }
 
-pub returns-in-err-lines : goal.returns-in-err-lines
-returns-in-err-lines c = record { replies = search rules; houses = secrecy_stands }
+pub returns-in_err-lines : goal.returns-in_err-lines
+returns-in_err-lines c = record { replies = search rules; houses = secrecy_stands }
 
-pub returns-in-err-answers : goal.returns-in-err-answers
-returns-in-err-answers c = record { replies = search rules; houses = secrecy_stands }
+pub returns-in_err-answers : goal.returns-in_err-answers
+returns-in_err-answers c = record { replies = search rules; houses = secrecy_stands }
 
 pub returns : goal.returns
 returns c =
-    let session : SessionOf (vec_items c.in-ok-lines.lines) (vec_items c.in-ok-answers.answers) = subst (λ (ds : List Decoded). SessionOf ds (vec_items c.in-ok-answers.answers)) c.as-slice.ensures.value c.in-ok-answers.ensures in
+    let session : SessionOf (vec_items c.in_ok-lines.lines) (vec_items c.in_ok-answers.answers) = subst (λ (ds : List Decoded). SessionOf ds (vec_items c.in_ok-answers.answers)) c.as_slice.ensures.value c.in_ok-answers.ensures in
     record {
-      replies = made_so c.transcript-2.result _ _ (λ t e. inl (c.if-input-gt-LIMIT.false, record { lines = vec_items c.in-ok-lines.lines; answers = vec_items c.in-ok-answers.answers; decodes = c.in-ok-lines.ensures; session = session; text = e ∙ ap transcript_of c.as-slice-2.ensures.value })) c.transcript-2.ensures;
+      replies = made_so c.transcript-2.result _ _ (λ t e. inl (c.if-input-gt-LIMIT.false, record { lines = vec_items c.in_ok-lines.lines; answers = vec_items c.in_ok-answers.answers; decodes = c.in_ok-lines.ensures; session = session; text = e ∙ ap transcript_of c.as_slice-2.ensures.value })) c.transcript-2.ensures;
       houses = secrecy_stands;
     }

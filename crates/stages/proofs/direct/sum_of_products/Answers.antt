@@ -14,13 +14,13 @@ pub loop-n-init : goal.loop-n-init
 loop-n-init g c =
     let s = c.args.s.now in
     let m = g.S.Scheme.meaning s in
-    let m0 = g.S.Scheme.meaning c.product-at-total.new.s in
-    let sound0 = g.met.S.Scheme.sound c.product-at-total.new.s in
-    let f : m ≡ m0 = sym c.product-at-total.ensures.frame in
+    let m0 = g.S.Scheme.meaning c.product_at-total.new.s in
+    let sound0 = g.met.S.Scheme.sound c.product_at-total.new.s in
+    let f : m ≡ m0 = sym c.product_at-total.ensures.frame in
     let q = c.args.scale in
-    let r = c.product-at-total.result in
+    let r = c.product_at-total.result in
     let h : (v : View) (z : Complex) → ((d : _) → StandsPair m0 v z (get_or c.args.block.now 0 d)) → StandsPair m0 v (twiddle q (0 * c.args.k * (256 / c.args.size)) ⊗ z) r =
-    subst (λ w. (v : View) (z : Complex) → ((d : _) → StandsPair w v z (get_or c.args.block.now 0 d)) → StandsPair w v (twiddle q (0 * c.args.k * (256 / c.args.size)) ⊗ z) r) f c.product-at-total.ensures.value
+    subst (λ w. (v : View) (z : Complex) → ((d : _) → StandsPair w v z (get_or c.args.block.now 0 d)) → StandsPair w v (twiddle q (0 * c.args.k * (256 / c.args.size)) ⊗ z) r) f c.product_at-total.ensures.value
     in (
       refl,
       λ v x i.
@@ -30,16 +30,16 @@ loop-n-init g c =
 
 pub loop-n-preserved : goal.loop-n-preserved
 loop-n-preserved g c =
-    let m0 = g.S.Scheme.meaning c.product-at-total.new.s in
-    let sound0 = g.met.S.Scheme.sound c.product-at-total.new.s in
+    let m0 = g.S.Scheme.meaning c.product_at-total.new.s in
+    let sound0 = g.met.S.Scheme.sound c.product_at-total.new.s in
     let f : g.S.Scheme.meaning c.loop-n.s ≡ m0 = c.loop-n.invariant.0 in
-    let f2 : g.S.Scheme.meaning c.product-at-next.new.s ≡ m0 = c.product-at-next.ensures.frame ∙ f in
+    let f2 : g.S.Scheme.meaning c.product_at-next.new.s ≡ m0 = c.product_at-next.ensures.frame ∙ f in
     let q = c.args.scale in
     let n = c.loop-n.n in
-    let next = c.product-at-next.result in
+    let next = c.product_at-next.result in
     let r = c.sum-total.result in
     let h : (v : View) (z : Complex) → ((d : _) → StandsPair m0 v z (get_or c.args.block.now n d)) → StandsPair m0 v (twiddle q (n * c.args.k * (256 / c.args.size)) ⊗ z) next =
-    subst (λ w. (v : View) (z : Complex) → ((d : _) → StandsPair w v z (get_or c.args.block.now n d)) → StandsPair w v (twiddle q (n * c.args.k * (256 / c.args.size)) ⊗ z) next) f c.product-at-next.ensures.value
+    subst (λ w. (v : View) (z : Complex) → ((d : _) → StandsPair w v z (get_or c.args.block.now n d)) → StandsPair w v (twiddle q (n * c.args.k * (256 / c.args.size)) ⊗ z) next) f c.product_at-next.ensures.value
     in
     let k : Adds m0 sound0 c.loop-n.total next r = simp f2 at c.sum-total.ensures.value in (
       c.sum-total.ensures.frame ∙ f2,
@@ -54,8 +54,8 @@ returns g c =
     let s = c.args.s.now in
     let m = g.S.Scheme.meaning s in
     let sound = g.met.S.Scheme.sound s in
-    let m0 = g.S.Scheme.meaning c.product-at-total.new.s in
-    let f0 : m0 ≡ m = c.product-at-total.ensures.frame in
+    let m0 = g.S.Scheme.meaning c.product_at-total.new.s in
+    let f0 : m0 ≡ m = c.product_at-total.ensures.frame in
     let q = c.args.scale in
     let k = c.args.k in
     let size = c.args.size in

@@ -4,8 +4,8 @@ use Rattle.stages.proofs.Making.{making_start, making_step}
 use Rattle.stages.proofs.Shapes.{count_small, group_below, group_fits}
 use Rattle.stages.proofs.radix.cross_all.Goals as goal
 
-pub overflow-mul-count : goal.overflow-mul-count
-overflow-mul-count g c =
+pub overflow_mul-count : goal.overflow_mul-count
+overflow_mul-count g c =
     let one : 1 ≤ c.args.radix = omega (arith, c.requires.radix) in
     let h = count_small c.args.groups c.args.radix c.args.span 256 one c.requires.span.1 in
     omega arith

@@ -9,8 +9,8 @@ small c = mul-le-mul {n₁ = c.loop-i.power} {m₁ = c.args.radix} {n₂ = 256} 
 pub loop-i-init : goal.loop-i-init
 loop-i-init c = (sym (pow-zero c.args.radix), omega arith)
 
-pub overflow-mul-power : goal.overflow-mul-power
-overflow-mul-power c = let h : c.loop-i.power * c.args.radix ≤ 256 * 4 = small c in omega arith
+pub overflow_mul-power : goal.overflow_mul-power
+overflow_mul-power c = let h : c.loop-i.power * c.args.radix ≤ 256 * 4 = small c in omega arith
 
 pub loop-i-preserved : goal.loop-i-preserved
 loop-i-preserved c =

@@ -9,17 +9,17 @@ use Rattle.stages.proofs.radix.stage.Given as given
 use Rattle.stages.proofs.radix.stage.Goals as goal
 
 -- r · r^t lies within the size
-steps : (g : given.Over) (c : goal.In-default-first-malformed g) → (0 < c.in-Some.span) × (0 < c.in-Some.radix * c.in-Some.span) × (c.in-Some.radix * c.in-Some.span ≤ 256)
+steps : (g : given.Over) (c : goal.In-default-first_malformed g) → (0 < c.in-Some.span) × (0 < c.in-Some.radix * c.in-Some.span) × (c.in-Some.radix * c.in-Some.span ≤ 256)
 steps g c = size_step c.args.plan.now c.args.t c.in-Some.radix c.in-Some.span c.in-Some.ensures
 
-pub overflow-mul-groups : goal.overflow-mul-groups
-overflow-mul-groups g c = let h = steps g c in omega arith
+pub overflow_mul-groups : goal.overflow_mul-groups
+overflow_mul-groups g c = let h = steps g c in omega arith
 
 pub nonzero-div-groups : goal.nonzero-div-groups
 nonzero-div-groups g c = (steps g c).1
 
-pub cross-all-requires : goal.cross-all-requires
-cross-all-requires g c =
+pub cross_all-requires : goal.cross_all-requires
+cross_all-requires g c =
     let p = c.args.plan.now in
     let r = c.in-Some.radix in
     let span = c.in-Some.span in
@@ -44,17 +44,17 @@ returns g c =
     let span = c.in-Some.span in
     let z : c.size-size.result ≡ p.size = c.size-size.ensures in
     let groups = c.size-size.result / (r * span) in
-    let f : g.S.Scheme.meaning c.first-malformed.new.s ≡ m = c.first-malformed.ensures.frame in
-    let q = c.twiddle-scale.result in
+    let f : g.S.Scheme.meaning c.first_malformed.new.s ≡ m = c.first_malformed.ensures.frame in
+    let q = c.twiddle_scale.result in
     let before = c.args.block.now in
-    let after = c.cross-all.new.block in
-    let formed : Found m before p.size None = subst (λ n. Found m before n None) z c.in-default-first-malformed.ensures.value in
+    let after = c.cross_all.new.block in
+    let formed : Found m before p.size None = subst (λ n. Found m before n None) z c.in-default-first_malformed.ensures.value in
     let made : (t : ℕ) → span ≡ r ^ t → Making m q r t groups (groups * span) before after =
-    subst (λ w. (t : ℕ) → span ≡ r ^ t → Making w q r t groups (groups * span) before after) f c.cross-all.ensures.made
+    subst (λ w. (t : ℕ) → span ≡ r ^ t → Making w q r t groups (groups * span) before after) f c.cross_all.ensures.made
     in
     let long : p.size ≤ length before = omega arith in
-    let same : length after ≡ length before = c.cross-all.auto.block in
+    let same : length after ≡ length before = c.cross_all.auto.block in
     record {
-      value = finished m (g.met.S.Scheme.sound s) p c.args.t r span groups q before after c.twiddle-scale.ensures long c.in-Some.ensures formed (ap (λ n. n / (r * span)) z) made same;
-      frame = c.cross-all.ensures.frame ∙ f;
+      value = finished m (g.met.S.Scheme.sound s) p c.args.t r span groups q before after c.twiddle_scale.ensures long c.in-Some.ensures formed (ap (λ n. n / (r * span)) z) made same;
+      frame = c.cross_all.ensures.frame ∙ f;
     }

@@ -4,9 +4,9 @@ use Rattle.system.specs.Hidden.{raised}
 use Rattle.system.specs.Congruence.{raised_below}
 use Rattle.system.proofs.arithmetic.raise.Goals as goal
 
-pub overflow-add-result : goal.overflow-add-result
+pub overflow_add-result : goal.overflow_add-result
 unfolding raised
-overflow-add-result c =
+overflow_add-result c =
     let filled =
     raised_below c.args.base c.args.factor c.args.modulus.n c.args.inverse c.args.residue
     c.requires.digits.0 (omega arith) in

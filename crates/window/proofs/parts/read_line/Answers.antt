@@ -8,12 +8,12 @@ pub returns-in-Direct : goal.returns-in-Direct
 returns-in-Direct g c =
     let m = g.S.Scheme.meaning c.args.s.now in
     record {
-      value = reading_direct m c.args.plan.now c.args.k c.args.block.now c.direct-line.result (sym c.in-Direct.ensures) c.requires.1 c.requires.0 c.direct-line.ensures.value;
-      frame = c.direct-line.ensures.frame;
+      value = reading_direct m c.args.plan.now c.args.k c.args.block.now c.direct_line.result (sym c.in-Direct.ensures) c.requires.1 c.requires.0 c.direct_line.ensures.value;
+      frame = c.direct_line.ensures.frame;
     }
 
-pub returns-then-is-well-formed : goal.returns-then-is-well-formed
-returns-then-is-well-formed g c =
+pub returns-then-is_well_formed : goal.returns-then-is_well_formed
+returns-then-is_well_formed g c =
     let m = g.S.Scheme.meaning c.args.s.now in
     let p = c.args.plan.now in
     let x = c.at-pair.result in
@@ -22,12 +22,12 @@ returns-then-is-well-formed g c =
     in
     let l : c.args.k < length c.args.block.now = omega arith in
     record {
-      value = reading_there m (g.met.S.Scheme.sound c.args.s.now) p c.args.k c.args.block.now p.method x way l (c.at-pair.ensures x) (sym c.is-well-formed.ensures.value ∙ c.if-is-well-formed.true);
-      frame = c.is-well-formed.ensures.frame;
+      value = reading_there m (g.met.S.Scheme.sound c.args.s.now) p c.args.k c.args.block.now p.method x way l (c.at-pair.ensures x) (sym c.is_well_formed.ensures.value ∙ c.if-is_well_formed.true);
+      frame = c.is_well_formed.ensures.frame;
     }
 
-pub returns-else-is-well-formed : goal.returns-else-is-well-formed
-returns-else-is-well-formed g c =
+pub returns-else-is_well_formed : goal.returns-else-is_well_formed
+returns-else-is_well_formed g c =
     let m = g.S.Scheme.meaning c.args.s.now in
     let p = c.args.plan.now in
     let x = c.at-pair.result in
@@ -36,6 +36,6 @@ returns-else-is-well-formed g c =
     in
     let l : c.args.k < length c.args.block.now = omega arith in
     record {
-      value = reading_malformed m p c.args.k c.args.block.now p.method x way l (c.at-pair.ensures x) (sym c.is-well-formed.ensures.value ∙ c.if-is-well-formed.false);
-      frame = c.is-well-formed.ensures.frame;
+      value = reading_malformed m p c.args.k c.args.block.now p.method x way l (c.at-pair.ensures x) (sym c.is_well_formed.ensures.value ∙ c.if-is_well_formed.false);
+      frame = c.is_well_formed.ensures.frame;
     }

@@ -11,32 +11,32 @@ advanced-requires g c =
     let h = running_fits (length c.args.block.now) c.args.state.now kept c.in-Running-Advance.done c.in-Running-Advance.is-0 c.requires in
     omega (arith, h.1, stages_few kept.plan.method kept.plan.size)
 
-pub returns-in-ok-kept : goal.returns-in-ok-kept
-returns-in-ok-kept g c =
+pub returns-in_ok-kept : goal.returns-in_ok-kept
+returns-in_ok-kept g c =
     let m = g.S.Scheme.meaning c.args.s.now in
     let p = c.in-default-Plan in
-    let kept = c.in-ok-kept.kept in
+    let kept = c.in_ok-kept.kept in
     let bl = c.args.block.now in
-    let h = c.in-ok-kept.ensures.value in
+    let h = c.in_ok-kept.ensures.value in
     record {
       step =
           subst (λ k. Step m c.args.state.now bl k (Ok Done) (Filling kept 0) bl) (sym p.is-1)
-          (planned m c.args.state.now bl p.method p.size p.sample-scale p.twiddle-scale kept h);
-      fits = planned_fits m c.args.state.now bl p.method p.size p.sample-scale p.twiddle-scale kept h;
-      frame = c.plan-for.ensures.frame;
+          (planned m c.args.state.now bl p.method p.size p.sample_scale p.twiddle_scale kept h);
+      fits = planned_fits m c.args.state.now bl p.method p.size p.sample_scale p.twiddle_scale kept h;
+      frame = c.plan_for.ensures.frame;
     }
 
-pub returns-in-ok-advance-at : goal.returns-in-ok-advance-at
-returns-in-ok-advance-at g c =
+pub returns-in_ok-advance_at : goal.returns-in_ok-advance_at
+returns-in_ok-advance_at g c =
     let m = g.S.Scheme.meaning c.args.s.now in
     let kept = c.in-Running-Advance.kept in
     let t = c.in-Running-Advance.done in
     let bl = c.args.block.now in
-    let after = c.advance-at.new.block in
+    let after = c.advance_at.new.block in
     let st = c.args.state.now in
     let r = c.advanced.result in
     let f = running_fits (length bl) st kept t c.in-Running-Advance.is-0 c.requires in
-    let h = c.in-ok-advance-at.ensures.value in
+    let h = c.in_ok-advance_at.ensures.value in
     let l : kept.plan.size ≤ length after = omega (arith, f.0, h.1.long) in
     let d : t + 1 ≤ stages_for kept.plan = omega (arith, f.1) in
     record {
@@ -44,17 +44,17 @@ returns-in-ok-advance-at g c =
           subst (λ k. Step m st bl k (Ok Done) r after) (sym c.in-Running-Advance.is-1)
           (advanced m st bl kept t r after c.in-Running-Advance.is-0 h c.advanced.ensures);
       fits = subst (λ s. fits (length after) s ≡ true) (sym c.advanced.ensures) (progress_fits (length after) kept (t + 1) l d);
-      frame = c.advance-at.ensures.frame;
+      frame = c.advance_at.ensures.frame;
     }
 
-pub returns-in-ok-state : goal.returns-in-ok-state
-returns-in-ok-state g c =
+pub returns-in_ok-state : goal.returns-in_ok-state
+returns-in_ok-state g c =
     let m = g.S.Scheme.meaning c.args.s.now in
     let kept = c.in-Filling-Begin.kept in
     let bl = c.args.block.now in
     let st = c.args.state.now in
-    let r = c.in-ok-state.field-0 in
-    let h = c.in-ok-state.ensures in
+    let r = c.in_ok-state.field-0 in
+    let h = c.in_ok-state.ensures in
     let f = filling_fits (length bl) st kept c.in-Filling-Begin.count c.in-Filling-Begin.is-0 c.requires in
     record {
       step =

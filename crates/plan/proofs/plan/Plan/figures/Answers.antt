@@ -9,5 +9,5 @@ use Rattle.plan.proofs.plan.Plan.figures.Goals as goal
 pub returns-in-Radix2 : goal.returns-in-Radix2
 returns-in-Radix2 c =
     let p = c.args.self.now in
-    let v : c.radix-figures.result ≡ meaning_of p = search rules in
+    let v : c.radix_figures.result ≡ meaning_of p = search rules in
     record { value = v; limits = rw v (representable p.method p.size p.sample_scale p.twiddle_scale p.size_lawful p.sample_limited p.twiddle_limited) }

@@ -6,7 +6,7 @@ use Rattle.system.proofs.calls.SystemScheme.seal.Goals as goal
 pub returns : goal.returns
 returns c =
     let fits : SFits w64 c.args.m = c.ranges.m in
-    let admitted = simp to_z-of_z at c.in-ok-admit.ensures in
+    let admitted = simp to_z-of_z at c.in_ok-admit.ensures in
     record {
       value =
           sealed_owed c.args.self.now c.args.m c.args.word c.remainders.result admitted.0 admitted.1

@@ -2,8 +2,8 @@ use Rattle.std.proofs.Common.{arith, rules}
 use Rattle.system.specs.Laws.{product_odd, product_least, product_most}
 use Rattle.system.proofs.residues.System.whole.Goals as goal
 
-pub overflow-mul-result-2 : goal.overflow-mul-result-2
-overflow-mul-result-2 c = let h = product_most c.args.self.now in search rules
+pub overflow_mul-result-2 : goal.overflow_mul-result-2
+overflow_mul-result-2 c = let h = product_most c.args.self.now in search rules
 
 pub invariant-of-result : goal.invariant-of-result
 invariant-of-result c =
