@@ -19,8 +19,8 @@ fn note<S: Scheme>(
     call: Call<S::Number>,
     answers: &mut Vec<Result<Reply, Refusal>>,
 ) -> Result<(), AllocError>
-    ensures noted { OnOk result (Noted (meaning s.old) window.old.state window.old.block.now answers.old.items call window.new.state window.new.block.now answers.new.items) }
-    ensures frame { meaning s.new ≡ meaning s.old }
+    ensures noted { OnOk result (Noted (S.meaning s.old) window.old.state window.old.block.now answers.old.items call window.new.state window.new.block.now answers.new.items) }
+    ensures frame { S.meaning s.new ≡ S.meaning s.old }
     ensures lender { window.new.block.ghost_name ≡ window.old.block.ghost_name }
 {
     let answer = window.call(s, call);
@@ -35,9 +35,9 @@ pub fn run<S: Scheme>(
     calls: &[Call<S::Number>],
     heap: Global,
 ) -> Result<Vec<Result<Reply, Refusal>>, AllocError>
-    ensures run { IfOk result (λ v. RunOf (meaning s.old) block.old calls.now v.items block.new) }
+    ensures run { IfOk result (λ v. RunOf (S.meaning s.old) block.old calls.now v.items block.new) }
     ensures houses { SecrecyStands }
-    ensures frame { meaning s.new ≡ meaning s.old }
+    ensures frame { S.meaning s.new ≡ S.meaning s.old }
 {
     let mut window = Window::new(block);
     let mut answers = Vec::new(heap);

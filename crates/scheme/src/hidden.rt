@@ -7,8 +7,8 @@ use crate::calls::Scheme;
 
 // size · x, from the top binary digit of size: one sum for each further digit, one more where that digit is 1.
 fn repeated<S: Scheme>(s: &mut S, size: u64, x: S::Number) -> S::Number
-    ensures value { (meaning s.old).wf x ≡ true → (v : View) → Stands (meaning s.old) v (pos size *ℤ read (meaning s.old) v x) result }
-    ensures frame { meaning s.new ≡ meaning s.old }
+    ensures value { (S.meaning s.old).wf x ≡ true → (v : View) → Stands (S.meaning s.old) v (pos size *ℤ read (S.meaning s.old) v x) result }
+    ensures frame { S.meaning s.new ≡ S.meaning s.old }
 {
     if size == 0 {
         return s.zero();
@@ -27,8 +27,8 @@ fn repeated<S: Scheme>(s: &mut S, size: u64, x: S::Number) -> S::Number
 
 // c · x for any whole number c: the multiple by its size, and its opposite where c is negative.
 pub fn multiple<S: Scheme>(s: &mut S, c: i64, x: S::Number) -> S::Number
-    ensures value { (meaning s.old).wf x ≡ true → (v : View) → Stands (meaning s.old) v (c *ℤ read (meaning s.old) v x) result }
-    ensures frame { meaning s.new ≡ meaning s.old }
+    ensures value { (S.meaning s.old).wf x ≡ true → (v : View) → Stands (S.meaning s.old) v (c *ℤ read (S.meaning s.old) v x) result }
+    ensures frame { S.meaning s.new ≡ S.meaning s.old }
 {
     let r = repeated(s, c.unsigned_abs(), x);
     if c < 0 { s.opposite(r) } else { r }
@@ -36,8 +36,8 @@ pub fn multiple<S: Scheme>(s: &mut S, c: i64, x: S::Number) -> S::Number
 
 // a − b: one opposite and one sum.
 pub fn difference<S: Scheme>(s: &mut S, a: S::Number, b: S::Number) -> S::Number
-    ensures value { (meaning s.old).wf a ≡ true → (meaning s.old).wf b ≡ true → (v : View) → Stands (meaning s.old) v (read (meaning s.old) v a -ℤ read (meaning s.old) v b) result }
-    ensures frame { meaning s.new ≡ meaning s.old }
+    ensures value { (S.meaning s.old).wf a ≡ true → (S.meaning s.old).wf b ≡ true → (v : View) → Stands (S.meaning s.old) v (read (S.meaning s.old) v a -ℤ read (S.meaning s.old) v b) result }
+    ensures frame { S.meaning s.new ≡ S.meaning s.old }
 {
     let less = s.opposite(b);
     s.sum(a, less)

@@ -16,8 +16,8 @@ pub fn sum<S: Scheme>(
     a: (S::Number, S::Number),
     b: (S::Number, S::Number),
 ) -> (S::Number, S::Number)
-    ensures value { WellFormed (meaning s.old) a → WellFormed (meaning s.old) b → (v : View) → StandsPair (meaning s.old) v (read_pair (meaning s.old) v a ⊕ read_pair (meaning s.old) v b) result }
-    ensures frame { meaning s.new ≡ meaning s.old }
+    ensures value { WellFormed (S.meaning s.old) a → WellFormed (S.meaning s.old) b → (v : View) → StandsPair (S.meaning s.old) v (read_pair (S.meaning s.old) v a ⊕ read_pair (S.meaning s.old) v b) result }
+    ensures frame { S.meaning s.new ≡ S.meaning s.old }
 {
     let re = s.sum(a.0, b.0);
     let im = s.sum(a.1, b.1);
@@ -30,8 +30,8 @@ pub fn difference<S: Scheme>(
     a: (S::Number, S::Number),
     b: (S::Number, S::Number),
 ) -> (S::Number, S::Number)
-    ensures value { WellFormed (meaning s.old) a → WellFormed (meaning s.old) b → (v : View) → StandsPair (meaning s.old) v (read_pair (meaning s.old) v a ⊖ read_pair (meaning s.old) v b) result }
-    ensures frame { meaning s.new ≡ meaning s.old }
+    ensures value { WellFormed (S.meaning s.old) a → WellFormed (S.meaning s.old) b → (v : View) → StandsPair (S.meaning s.old) v (read_pair (S.meaning s.old) v a ⊖ read_pair (S.meaning s.old) v b) result }
+    ensures frame { S.meaning s.new ≡ S.meaning s.old }
 {
     let re = hidden::difference(s, a.0, b.0);
     let im = hidden::difference(s, a.1, b.1);
@@ -40,8 +40,8 @@ pub fn difference<S: Scheme>(
 
 // The multiple by a whole number: one multiple for each component.
 pub fn multiple<S: Scheme>(s: &mut S, c: i64, a: (S::Number, S::Number)) -> (S::Number, S::Number)
-    ensures value { WellFormed (meaning s.old) a → (v : View) → StandsPair (meaning s.old) v (c ⊙ read_pair (meaning s.old) v a) result }
-    ensures frame { meaning s.new ≡ meaning s.old }
+    ensures value { WellFormed (S.meaning s.old) a → (v : View) → StandsPair (S.meaning s.old) v (c ⊙ read_pair (S.meaning s.old) v a) result }
+    ensures frame { S.meaning s.new ≡ S.meaning s.old }
 {
     let re = hidden::multiple(s, c, a.0);
     let im = hidden::multiple(s, c, a.1);
@@ -54,8 +54,8 @@ pub fn product<S: Scheme>(
     w: Complex,
     a: (S::Number, S::Number),
 ) -> (S::Number, S::Number)
-    ensures value { WellFormed (meaning s.old) a → (v : View) → StandsPair (meaning s.old) v (w ⊗ read_pair (meaning s.old) v a) result }
-    ensures frame { meaning s.new ≡ meaning s.old }
+    ensures value { WellFormed (S.meaning s.old) a → (v : View) → StandsPair (S.meaning s.old) v (w ⊗ read_pair (S.meaning s.old) v a) result }
+    ensures frame { S.meaning s.new ≡ S.meaning s.old }
 {
     let re_re = hidden::multiple(s, w.re, a.0);
     let im_im = hidden::multiple(s, w.im, a.1);
@@ -68,8 +68,8 @@ pub fn product<S: Scheme>(
 
 // The product by −j: one opposite.
 pub fn turn<S: Scheme>(s: &mut S, a: (S::Number, S::Number)) -> (S::Number, S::Number)
-    ensures value { WellFormed (meaning s.old) a → (v : View) → StandsPair (meaning s.old) v (quarter_turn_of (read_pair (meaning s.old) v a)) result }
-    ensures frame { meaning s.new ≡ meaning s.old }
+    ensures value { WellFormed (S.meaning s.old) a → (v : View) → StandsPair (S.meaning s.old) v (quarter_turn_of (read_pair (S.meaning s.old) v a)) result }
+    ensures frame { S.meaning s.new ≡ S.meaning s.old }
 {
     (a.1, s.opposite(a.0))
 }
@@ -82,8 +82,8 @@ pub fn seal<S: Scheme>(
     sample: Complex,
     words: (u64, u64),
 ) -> Result<(S::Number, S::Number), Refusal>
-    ensures value { SealsPair (meaning s.old) limit sample words result }
-    ensures frame { meaning s.new ≡ meaning s.old }
+    ensures value { SealsPair (S.meaning s.old) limit sample words result }
+    ensures frame { S.meaning s.new ≡ S.meaning s.old }
 {
     let room = limit.min(sealing::modulus_of(s).half());
     if sample.re.unsigned_abs() > room || sample.im.unsigned_abs() > room {
@@ -96,8 +96,8 @@ pub fn seal<S: Scheme>(
 
 // The complex whole number that a hidden pair means.
 pub fn open<S: Scheme>(s: &mut S, a: (S::Number, S::Number)) -> Complex
-    ensures value { WellFormed (meaning s.old) a → result ≡ means_pair (meaning s.old) a }
-    ensures frame { meaning s.new ≡ meaning s.old }
+    ensures value { WellFormed (S.meaning s.old) a → result ≡ means_pair (S.meaning s.old) a }
+    ensures frame { S.meaning s.new ≡ S.meaning s.old }
 {
     let re = sealing::open_centred(s, a.0);
     let im = sealing::open_centred(s, a.1);

@@ -9,8 +9,8 @@ use refusal::Refusal;
 
 // The modulus of a scheme.
 pub fn modulus_of<S: Scheme>(s: &mut S) -> Modulus
-    ensures value { result.n ≡ (meaning s.old).modulus }
-    ensures frame { meaning s.new ≡ meaning s.old }
+    ensures value { result.n ≡ (S.meaning s.old).modulus }
+    ensures frame { S.meaning s.new ≡ S.meaning s.old }
 {
     match Modulus::new(s.modulus()) {
         Some(modulus) => modulus,
@@ -26,8 +26,8 @@ pub fn seal_within<S: Scheme>(
     m: i64,
     word: u64,
 ) -> Result<S::Number, Refusal>
-    ensures value { SealsWithin (meaning s.old) limit m word result }
-    ensures frame { meaning s.new ≡ meaning s.old }
+    ensures value { SealsWithin (S.meaning s.old) limit m word result }
+    ensures frame { S.meaning s.new ≡ S.meaning s.old }
 {
     if m.unsigned_abs() > limit {
         return Err(Refusal::Large);
@@ -37,8 +37,8 @@ pub fn seal_within<S: Scheme>(
 
 // A number that hides the residue of r: the meaning of that residue, sealed with the word 1, which no scheme refuses.
 pub fn seal_residue<S: Scheme>(s: &mut S, r: u64) -> S::Number
-    ensures value { Stands (meaning s.old) [] (pos r) result }
-    ensures frame { meaning s.new ≡ meaning s.old }
+    ensures value { Stands (S.meaning s.old) [] (pos r) result }
+    ensures frame { S.meaning s.new ≡ S.meaning s.old }
 {
     let modulus = modulus_of(s);
     match s.seal(modulus.centred(r), 1) {
@@ -49,8 +49,8 @@ pub fn seal_residue<S: Scheme>(s: &mut S, r: u64) -> S::Number
 
 // The whole number that a hidden number means: the hidden residue up to (N − 1)/2 itself, above it less N.
 pub fn open_centred<S: Scheme>(s: &mut S, x: S::Number) -> i64
-    ensures value { (meaning s.old).wf x ≡ true → result ≡ means (meaning s.old) x }
-    ensures frame { meaning s.new ≡ meaning s.old }
+    ensures value { (S.meaning s.old).wf x ≡ true → result ≡ means (S.meaning s.old) x }
+    ensures frame { S.meaning s.new ≡ S.meaning s.old }
 {
     let modulus = modulus_of(s);
     modulus.centred(s.open(x))
@@ -58,8 +58,8 @@ pub fn open_centred<S: Scheme>(s: &mut S, x: S::Number) -> i64
 
 // Seals m with a mask word and opens it again: it is m.
 pub fn seal_and_open<S: Scheme>(s: &mut S, m: i64, word: u64) -> Result<i64, Refusal>
-    ensures value { Reopens (meaning s.old) m word result }
-    ensures frame { meaning s.new ≡ meaning s.old }
+    ensures value { Reopens (S.meaning s.old) m word result }
+    ensures frame { S.meaning s.new ≡ S.meaning s.old }
 {
     let x = s.seal(m, word)?;
     Ok(open_centred(s, x))

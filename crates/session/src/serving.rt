@@ -24,7 +24,7 @@ fn serve<S: Scheme>(
 ) -> Result<Option<Chosen>, AllocError>
     requires long { length block.old ≡ 256 }
     requires few { vec_len answers.old ≤ length lines.now }
-    ensures served { IfOk result (λ next. ServedFrom (meaning s.old) lines.now answers.old.items answers.new.items next) }
+    ensures served { IfOk result (λ next. ServedFrom (S.meaning s.old) lines.now answers.old.items answers.new.items next) }
     ensures counted { IfOk result (λ next. Counted (length lines.now) (vec_len answers.old) (vec_len answers.new) next) }
 {
     let mut window = Window::new(block);
@@ -43,7 +43,7 @@ fn serve<S: Scheme>(
 // A block of 256 pairs of zeros.
 fn new_block<S: Scheme>(s: &mut S, heap: Global) -> Result<Vec<(S::Number, S::Number)>, AllocError>
     ensures long { IfOk result (λ v. vec_len v ≡ 256) }
-    ensures frame { meaning s.new ≡ meaning s.old }
+    ensures frame { S.meaning s.new ≡ S.meaning s.old }
 {
     let zero = s.zero();
     let mut block = Vec::new(heap);
@@ -61,7 +61,7 @@ fn serve_new<S: Scheme>(
     heap: Global,
 ) -> Result<Option<Chosen>, AllocError>
     requires few { vec_len answers.old ≤ length lines.now }
-    ensures served { IfOk result (λ next. ServedFrom (meaning s.old) lines.now answers.old.items answers.new.items next) }
+    ensures served { IfOk result (λ next. ServedFrom (S.meaning s.old) lines.now answers.old.items answers.new.items next) }
     ensures counted { IfOk result (λ next. Counted (length lines.now) (vec_len answers.old) (vec_len answers.new) next) }
 {
     let mut block = new_block(s, heap)?;

@@ -36,8 +36,8 @@ fn load<S: Scheme>(
     sample: Complex,
     words: (u64, u64),
 ) -> Result<Reply, Refusal>
-    ensures loads { LoadsWithin (meaning s.old) window.old.state window.old.block.now n sample words (limit_in window.old.state n) result window.new.state window.new.block.now }
-    ensures frame { meaning s.new ≡ meaning s.old }
+    ensures loads { LoadsWithin (S.meaning s.old) window.old.state window.old.block.now n sample words (limit_in window.old.state n) result window.new.state window.new.block.now }
+    ensures frame { S.meaning s.new ≡ S.meaning s.old }
 {
     let limit = limit_for(window.state(), n)?;
     let pair = pairs::seal(s, limit, sample, words)?;
@@ -50,8 +50,8 @@ pub(crate) fn turn<S: Scheme>(
     s: &mut S,
     line: Result<Command, Refusal>,
 ) -> Turned
-    ensures turning { Turning (meaning s.old) window.old.state window.old.block.now line result window.new.state window.new.block.now }
-    ensures frame { meaning s.new ≡ meaning s.old }
+    ensures turning { Turning (S.meaning s.old) window.old.state window.old.block.now line result window.new.state window.new.block.now }
+    ensures frame { S.meaning s.new ≡ S.meaning s.old }
 {
     match line {
         Err(_) => Turned::Answered(Err(Refusal::Garbled)),

@@ -32,7 +32,7 @@ impl<S: Scheme> Split<S> {
 impl<S: Scheme> Scheme for Split<S> {
     type Number = Halves<S::Number>;
 
-    ghost meaning = { λ s. split (S.Scheme.meaning s.below) };
+    ghost meaning = { λ s. split (S.meaning s.below) };
 
     ghost sound = { Prim.search rules };
 
@@ -46,9 +46,9 @@ impl<S: Scheme> Scheme for Split<S> {
 
     // Half by half.
     fn zero(&mut self) -> Halves<S::Number>
-        ensures value { Zero (split (meaning self.old.below)) result }
-        ensures halves { ZeroHalves (meaning self.old.below) result }
-        ensures frame { split (meaning self.new.below) ≡ split (meaning self.old.below) }
+        ensures value { Zero (split (S.meaning self.old.below)) result }
+        ensures halves { ZeroHalves (S.meaning self.old.below) result }
+        ensures frame { split (S.meaning self.new.below) ≡ split (S.meaning self.old.below) }
     {
         let first = self.below.zero();
         let second = self.below.zero();
@@ -57,9 +57,9 @@ impl<S: Scheme> Scheme for Split<S> {
 
     // Half by half.
     fn sum(&mut self, a: Halves<S::Number>, b: Halves<S::Number>) -> Halves<S::Number>
-        ensures value { (split (meaning self.old.below)).wf a ≡ true → (split (meaning self.old.below)).wf b ≡ true → Sum (split (meaning self.old.below)) a b result }
-        ensures halves { SumHalves (meaning self.old.below) a b result }
-        ensures frame { split (meaning self.new.below) ≡ split (meaning self.old.below) }
+        ensures value { (split (S.meaning self.old.below)).wf a ≡ true → (split (S.meaning self.old.below)).wf b ≡ true → Sum (split (S.meaning self.old.below)) a b result }
+        ensures halves { SumHalves (S.meaning self.old.below) a b result }
+        ensures frame { split (S.meaning self.new.below) ≡ split (S.meaning self.old.below) }
     {
         let first = self.below.sum(a.first, b.first);
         let second = self.below.sum(a.second, b.second);
@@ -68,9 +68,9 @@ impl<S: Scheme> Scheme for Split<S> {
 
     // Half by half.
     fn opposite(&mut self, a: Halves<S::Number>) -> Halves<S::Number>
-        ensures value { (split (meaning self.old.below)).wf a ≡ true → Opposite (split (meaning self.old.below)) a result }
-        ensures halves { OppositeHalves (meaning self.old.below) a result }
-        ensures frame { split (meaning self.new.below) ≡ split (meaning self.old.below) }
+        ensures value { (split (S.meaning self.old.below)).wf a ≡ true → Opposite (split (S.meaning self.old.below)) a result }
+        ensures halves { OppositeHalves (S.meaning self.old.below) a result }
+        ensures frame { split (S.meaning self.new.below) ≡ split (S.meaning self.old.below) }
     {
         let first = self.below.opposite(a.first);
         let second = self.below.opposite(a.second);
@@ -79,9 +79,9 @@ impl<S: Scheme> Scheme for Split<S> {
 
     // The first half hides the word, the second half the residue of m less the word; both are sealed below with the word 1.
     fn seal(&mut self, m: i64, word: u64) -> Result<Halves<S::Number>, Refusal>
-        ensures value { Seals (split (meaning self.old.below)) m word result }
-        ensures halves { SealsHalves (meaning self.old.below) m word result }
-        ensures frame { split (meaning self.new.below) ≡ split (meaning self.old.below) }
+        ensures value { Seals (split (S.meaning self.old.below)) m word result }
+        ensures halves { SealsHalves (S.meaning self.old.below) m word result }
+        ensures frame { split (S.meaning self.new.below) ≡ split (S.meaning self.old.below) }
     {
         let modulus = modulus_of(&mut self.below);
         if m.unsigned_abs() > modulus.half() {

@@ -17,8 +17,8 @@ fn scaled<S: Scheme>(
     size: usize,
     x: (S::Number, S::Number),
 ) -> (S::Number, S::Number)
-    ensures value { (v : View) (z : Value) (k : ℕ) → StandsPair (meaning s.old) v z x → StandsPair (meaning s.old) v (weight scale size 0 k ⊗ z) result }
-    ensures frame { meaning s.new ≡ meaning s.old }
+    ensures value { (v : View) (z : Value) (k : ℕ) → StandsPair (S.meaning s.old) v z x → StandsPair (S.meaning s.old) v (weight scale size 0 k ⊗ z) result }
+    ensures frame { S.meaning s.new ≡ S.meaning s.old }
 {
     if size <= 4 {
         x
@@ -39,8 +39,8 @@ fn twiddled<S: Scheme>(
     requires part { (1 ≤ i) × (i < 4) }
     requires line { (k < size) × (size ≤ 256) }
     requires exact { size ≤ 4 → i * k * (4 / size) ≤ 1 }
-    ensures value { (v : View) (z : Value) → StandsPair (meaning s.old) v z x → StandsPair (meaning s.old) v (weight scale size i k ⊗ z) result }
-    ensures frame { meaning s.new ≡ meaning s.old }
+    ensures value { (v : View) (z : Value) → StandsPair (S.meaning s.old) v z x → StandsPair (S.meaning s.old) v (weight scale size i k ⊗ z) result }
+    ensures frame { S.meaning s.new ≡ S.meaning s.old }
 {
     if size > 4 {
         let factor = twiddle(i * k * (256 / size), scale);
@@ -57,8 +57,8 @@ fn cross2<S: Scheme>(
     s: &mut S,
     x: ((S::Number, S::Number), (S::Number, S::Number)),
 ) -> ((S::Number, S::Number), (S::Number, S::Number))
-    ensures value { (v : View) (z : ℕ → Value) → Two (meaning s.old) v z x → Two (meaning s.old) v (butterfly 2 z) result }
-    ensures frame { meaning s.new ≡ meaning s.old }
+    ensures value { (v : View) (z : ℕ → Value) → Two (S.meaning s.old) v z x → Two (S.meaning s.old) v (butterfly 2 z) result }
+    ensures frame { S.meaning s.new ≡ S.meaning s.old }
 {
     let (a, b) = x;
     let sum = pairs::sum(s, a, b);
@@ -81,8 +81,8 @@ fn cross4<S: Scheme>(
     (S::Number, S::Number),
     (S::Number, S::Number),
 )
-    ensures value { (v : View) (z : ℕ → Value) → Four (meaning s.old) v z x → Four (meaning s.old) v (butterfly 4 z) result }
-    ensures frame { meaning s.new ≡ meaning s.old }
+    ensures value { (v : View) (z : ℕ → Value) → Four (S.meaning s.old) v z x → Four (S.meaning s.old) v (butterfly 4 z) result }
+    ensures frame { S.meaning s.new ≡ S.meaning s.old }
 {
     let (a, b, c, d) = x;
     let even = pairs::sum(s, a, c);
@@ -107,8 +107,8 @@ pub(crate) fn mix2<S: Scheme>(
 ) -> ((S::Number, S::Number), (S::Number, S::Number))
     requires line { (k < size) × (size ≤ 256) }
     requires exact { size ≤ 4 → k * (4 / size) ≤ 1 }
-    ensures value { (v : View) (z : ℕ → Value) → Two (meaning s.old) v z x → Two (meaning s.old) v (butterfly 2 (λ i. weight scale size i k ⊗ z i)) result }
-    ensures frame { meaning s.new ≡ meaning s.old }
+    ensures value { (v : View) (z : ℕ → Value) → Two (S.meaning s.old) v z x → Two (S.meaning s.old) v (butterfly 2 (λ i. weight scale size i k ⊗ z i)) result }
+    ensures frame { S.meaning s.new ≡ S.meaning s.old }
 {
     let (a, b) = x;
     let first = scaled(s, scale, size, a);
@@ -136,8 +136,8 @@ pub(crate) fn mix4<S: Scheme>(
 )
     requires line { (k < size) × (size ≤ 256) }
     requires exact { size ≤ 4 → k ≡ 0 }
-    ensures value { (v : View) (z : ℕ → Value) → Four (meaning s.old) v z x → Four (meaning s.old) v (butterfly 4 (λ i. weight scale size i k ⊗ z i)) result }
-    ensures frame { meaning s.new ≡ meaning s.old }
+    ensures value { (v : View) (z : ℕ → Value) → Four (S.meaning s.old) v z x → Four (S.meaning s.old) v (butterfly 4 (λ i. weight scale size i k ⊗ z i)) result }
+    ensures frame { S.meaning s.new ≡ S.meaning s.old }
 {
     let (a, b, c, d) = x;
     let first = scaled(s, scale, size, a);

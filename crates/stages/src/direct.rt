@@ -25,8 +25,8 @@ fn product_at<S: Scheme>(
     block: &[(S::Number, S::Number)],
 ) -> (S::Number, S::Number)
     requires { (n < size) × ((k < size) × ((size ≤ 256) × (size ≤ length block.now))) }
-    ensures value { (v : View) (z : Value) → ((d : S.Number × S.Number) → StandsPair (meaning s.old) v z (slice_index_or block.now n d)) → StandsPair (meaning s.old) v (twiddleOf scale (n * k * (256 / size)) ⊗ z) result }
-    ensures frame { meaning s.new ≡ meaning s.old }
+    ensures value { (v : View) (z : Value) → ((d : S.Number × S.Number) → StandsPair (S.meaning s.old) v z (slice_index_or block.now n d)) → StandsPair (S.meaning s.old) v (twiddleOf scale (n * k * (256 / size)) ⊗ z) result }
+    ensures frame { S.meaning s.new ≡ S.meaning s.old }
 {
     let factor = twiddle(n * k * (256 / size), scale);
     pairs::product(s, factor, at(block, n))
@@ -41,8 +41,8 @@ fn sum_of_products<S: Scheme>(
     block: &[(S::Number, S::Number)],
 ) -> (S::Number, S::Number)
     requires { (k < size) × ((size ≤ 256) × (size ≤ length block.now)) }
-    ensures value { (v : View) (x : ℕ → Value) → Samples (meaning s.old) v size x block.now → StandsPair (meaning s.old) v (direct_line_of scale size x k) result }
-    ensures frame { meaning s.new ≡ meaning s.old }
+    ensures value { (v : View) (x : ℕ → Value) → Samples (S.meaning s.old) v size x block.now → StandsPair (S.meaning s.old) v (direct_line_of scale size x k) result }
+    ensures frame { S.meaning s.new ≡ S.meaning s.old }
 {
     let mut total = product_at(s, scale, size, k, 0, block);
     for n in 1..size {
@@ -61,8 +61,8 @@ pub fn direct_line<S: Scheme>(
     k: usize,
     block: &[(S::Number, S::Number)],
 ) -> Result<(S::Number, S::Number), Refusal>
-    ensures value { DirectAnswer (meaning s.old) plan.now k block.now result }
-    ensures frame { meaning s.new ≡ meaning s.old }
+    ensures value { DirectAnswer (S.meaning s.old) plan.now k block.now result }
+    ensures frame { S.meaning s.new ≡ S.meaning s.old }
 {
     let size = plan.size();
     if block.len() < size {

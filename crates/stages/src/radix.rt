@@ -20,8 +20,8 @@ fn cross_two<S: Scheme>(
 )
     requires span { (offset < span) × (group * (2 * span) + 2 * span ≤ 256) }
     requires within { group * (2 * span) + 2 * span ≤ length block.old }
-    ensures crossed { CrossedAt (meaning s.old) scale 2 span group offset block.old block.new }
-    ensures frame { meaning s.new ≡ meaning s.old }
+    ensures crossed { CrossedAt (S.meaning s.old) scale 2 span group offset block.old block.new }
+    ensures frame { S.meaning s.new ≡ S.meaning s.old }
 {
     let size = 2 * span;
     let first = group * size + offset;
@@ -43,8 +43,8 @@ fn cross_four<S: Scheme>(
 )
     requires span { (offset < span) × (group * (4 * span) + 4 * span ≤ 256) }
     requires within { group * (4 * span) + 4 * span ≤ length block.old }
-    ensures crossed { CrossedAt (meaning s.old) scale 4 span group offset block.old block.new }
-    ensures frame { meaning s.new ≡ meaning s.old }
+    ensures crossed { CrossedAt (S.meaning s.old) scale 4 span group offset block.old block.new }
+    ensures frame { S.meaning s.new ≡ S.meaning s.old }
 {
     let size = 4 * span;
     let first = group * size + offset;
@@ -77,8 +77,8 @@ fn cross<S: Scheme>(
     requires radix { (radix ≡ 2) ⊎ (radix ≡ 4) }
     requires span { (offset < span) × (group * (radix * span) + radix * span ≤ 256) }
     requires within { group * (radix * span) + radix * span ≤ length block.old }
-    ensures crossed { CrossedAt (meaning s.old) scale radix span group offset block.old block.new }
-    ensures frame { meaning s.new ≡ meaning s.old }
+    ensures crossed { CrossedAt (S.meaning s.old) scale radix span group offset block.old block.new }
+    ensures frame { S.meaning s.new ≡ S.meaning s.old }
 {
     if radix == 2 {
         cross_two(s, scale, span, group, offset, block);
@@ -99,8 +99,8 @@ fn cross_all<S: Scheme>(
     requires radix { (radix ≡ 2) ⊎ (radix ≡ 4) }
     requires span { (0 < span) × (groups * (radix * span) ≤ 256) }
     requires within { groups * (radix * span) ≤ length block.old }
-    ensures made { (t : ℕ) → span ≡ radix ^ t → Making (meaning s.old) scale radix t groups (groups * span) block.old block.new }
-    ensures frame { meaning s.new ≡ meaning s.old }
+    ensures made { (t : ℕ) → span ≡ radix ^ t → Making (S.meaning s.old) scale radix t groups (groups * span) block.old block.new }
+    ensures frame { S.meaning s.new ≡ S.meaning s.old }
 {
     let count = groups * span;
     for n in 0..count {
@@ -147,8 +147,8 @@ pub fn stage<S: Scheme>(
     t: usize,
     block: &mut [(S::Number, S::Number)],
 ) -> Result<(), Refusal>
-    ensures value { StageAnswer (meaning s.old) plan.now t block.old block.new result }
-    ensures frame { meaning s.new ≡ meaning s.old }
+    ensures value { StageAnswer (S.meaning s.old) plan.now t block.old block.new result }
+    ensures frame { S.meaning s.new ≡ S.meaning s.old }
 {
     let size = plan.size();
     if block.len() < size {

@@ -8,8 +8,8 @@ use scheme::Scheme;
 
 // Whether the place is there and holds a well-formed pair.
 fn well_formed_at<S: Scheme>(s: &mut S, block: &[(S::Number, S::Number)], i: usize) -> bool
-    ensures value { result ≡ is_well_formed_at (meaning s.old) block.now i }
-    ensures frame { meaning s.new ≡ meaning s.old }
+    ensures value { result ≡ is_well_formed_at (S.meaning s.old) block.now i }
+    ensures frame { S.meaning s.new ≡ S.meaning s.old }
 {
     if i >= block.len() {
         return false;
@@ -27,8 +27,8 @@ pub fn first_malformed<S: Scheme>(
     block: &[(S::Number, S::Number)],
     count: usize,
 ) -> Option<usize>
-    ensures value { Found (meaning s.old) block.now count result }
-    ensures frame { meaning s.new ≡ meaning s.old }
+    ensures value { Found (S.meaning s.old) block.now count result }
+    ensures frame { S.meaning s.new ≡ S.meaning s.old }
 {
     for i in 0..count {
         if !well_formed_at(s, block, i) {

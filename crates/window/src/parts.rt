@@ -28,8 +28,8 @@ fn put<T: Copy>(block: &mut [T], i: usize, x: T)
 
 // Whether both components of a pair are well formed.
 fn is_well_formed<S: Scheme>(s: &mut S, pair: (S::Number, S::Number)) -> bool
-    ensures value { result ≡ well_formed (meaning s.old) pair }
-    ensures frame { meaning s.new ≡ meaning s.old }
+    ensures value { result ≡ well_formed (S.meaning s.old) pair }
+    ensures frame { S.meaning s.new ≡ S.meaning s.old }
 {
     let re = s.test(pair.0);
     let im = s.test(pair.1);
@@ -85,8 +85,8 @@ pub(crate) fn plan_for<S: Scheme>(
     sample_scale: u64,
     twiddle_scale: u64,
 ) -> Result<Kept, Refusal>
-    ensures value { Planning (meaning s.old) block.now method size sample_scale twiddle_scale result }
-    ensures frame { meaning s.new ≡ meaning s.old }
+    ensures value { Planning (S.meaning s.old) block.now method size sample_scale twiddle_scale result }
+    ensures frame { S.meaning s.new ≡ S.meaning s.old }
 {
     let plan = Plan::new(method, size, sample_scale, twiddle_scale)?;
     if block.len() < plan.size() {
@@ -105,8 +105,8 @@ fn check_load<S: Scheme>(
     n: usize,
     pair: (S::Number, S::Number),
 ) -> Result<(), Refusal>
-    ensures value { Checking (meaning s.old) kept.now count n pair result }
-    ensures frame { meaning s.new ≡ meaning s.old }
+    ensures value { Checking (S.meaning s.old) kept.now count n pair result }
+    ensures frame { S.meaning s.new ≡ S.meaning s.old }
 {
     if n > count || n >= kept.plan.size() {
         return Err(Refusal::Place);
@@ -140,8 +140,8 @@ pub(crate) fn load_at<S: Scheme>(
     block: &mut [(S::Number, S::Number)],
 ) -> Result<(), Refusal>
     requires { kept.now.plan.size ≤ length block.old }
-    ensures value { Loading (meaning s.old) kept.now count n pair block.old block.new result }
-    ensures frame { meaning s.new ≡ meaning s.old }
+    ensures value { Loading (S.meaning s.old) kept.now count n pair block.old block.new result }
+    ensures frame { S.meaning s.new ≡ S.meaning s.old }
 {
     check_load(s, kept, count, n, pair)?;
     put_sample(&kept.plan, n, pair, block)
@@ -156,8 +156,8 @@ pub(crate) fn advance_at<S: Scheme>(
 ) -> Result<(), Refusal>
     requires long { kept.now.plan.size ≤ length block.old }
     requires due { t < stages_for kept.now.plan }
-    ensures value { Advancing (meaning s.old) kept.now t block.old block.new result }
-    ensures frame { meaning s.new ≡ meaning s.old }
+    ensures value { Advancing (S.meaning s.old) kept.now t block.old block.new result }
+    ensures frame { S.meaning s.new ≡ S.meaning s.old }
 {
     if s.modulus() != kept.modulus {
         return Err(Refusal::Strange);
@@ -173,8 +173,8 @@ fn read_line<S: Scheme>(
     block: &[(S::Number, S::Number)],
 ) -> Result<(S::Number, S::Number), Refusal>
     requires { (k < plan.now.size) × (plan.now.size ≤ length block.now) }
-    ensures value { Reading (meaning s.old) plan.now k block.now result }
-    ensures frame { meaning s.new ≡ meaning s.old }
+    ensures value { Reading (S.meaning s.old) plan.now k block.now result }
+    ensures frame { S.meaning s.new ≡ S.meaning s.old }
 {
     match plan.method() {
         Method::Direct => direct_line(s, plan, k, block),
@@ -197,8 +197,8 @@ pub(crate) fn line_at<S: Scheme>(
     block: &[(S::Number, S::Number)],
 ) -> Result<Line, Refusal>
     requires { kept.now.plan.size ≤ length block.now }
-    ensures value { Opening (meaning s.old) kept.now k block.now result }
-    ensures frame { meaning s.new ≡ meaning s.old }
+    ensures value { Opening (S.meaning s.old) kept.now k block.now result }
+    ensures frame { S.meaning s.new ≡ S.meaning s.old }
 {
     if k >= kept.plan.size() {
         return Err(Refusal::Place);

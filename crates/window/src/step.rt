@@ -15,9 +15,9 @@ pub(crate) fn step<S: Scheme>(
     call: Call<S::Number>,
 ) -> Result<Reply, Refusal>
     requires { fits (length block.old) state.old ≡ true }
-    ensures step { Step (meaning s.old) state.old block.old call result state.new block.new }
+    ensures step { Step (S.meaning s.old) state.old block.old call result state.new block.new }
     ensures fits { fits (length block.new) state.new ≡ true }
-    ensures frame { meaning s.new ≡ meaning s.old }
+    ensures frame { S.meaning s.new ≡ S.meaning s.old }
 {
     match (*state, call) {
         (

@@ -39,8 +39,8 @@ impl<'a, S: Scheme> Window<'a, S> {
 
     // Any call: what it does depends on the window's state and the call together. A declined call changes nothing.
     pub fn call(&mut self, s: &mut S, call: Call<S::Number>) -> Result<Reply, Refusal>
-        ensures step { Step (meaning s.old) self.old.state self.old.block.now call result self.new.state self.new.block.now }
-        ensures frame { meaning s.new ≡ meaning s.old }
+        ensures step { Step (S.meaning s.old) self.old.state self.old.block.now call result self.new.state self.new.block.now }
+        ensures frame { S.meaning s.new ≡ S.meaning s.old }
         ensures lender { self.new.block.ghost_name ≡ self.old.block.ghost_name }
     {
         let Window { block, state } = self;
@@ -57,8 +57,8 @@ impl<'a, S: Scheme> Window<'a, S> {
         sample_scale: u64,
         twiddle_scale: u64,
     ) -> Result<Reply, Refusal>
-        ensures step { Step (meaning s.old) self.old.state self.old.block.now (PlanCall method size sample_scale twiddle_scale) result self.new.state self.new.block.now }
-        ensures frame { meaning s.new ≡ meaning s.old }
+        ensures step { Step (S.meaning s.old) self.old.state self.old.block.now (PlanCall method size sample_scale twiddle_scale) result self.new.state self.new.block.now }
+        ensures frame { S.meaning s.new ≡ S.meaning s.old }
         ensures lender { self.new.block.ghost_name ≡ self.old.block.ghost_name }
     {
         self.call(
@@ -80,8 +80,8 @@ impl<'a, S: Scheme> Window<'a, S> {
         n: usize,
         pair: (S::Number, S::Number),
     ) -> Result<Reply, Refusal>
-        ensures step { Step (meaning s.old) self.old.state self.old.block.now (Load n pair) result self.new.state self.new.block.now }
-        ensures frame { meaning s.new ≡ meaning s.old }
+        ensures step { Step (S.meaning s.old) self.old.state self.old.block.now (Load n pair) result self.new.state self.new.block.now }
+        ensures frame { S.meaning s.new ≡ S.meaning s.old }
         ensures lender { self.new.block.ghost_name ≡ self.old.block.ghost_name }
     {
         self.call(s, Call::Load { n, pair })
@@ -106,8 +106,8 @@ impl<'a, S: Scheme> Window<'a, S> {
     // One stage; after the last the window is finished. Refuses with Moment where the window is not running, else with Strange under
     // another modulus, else with Malformed at the first malformed pair among those of the plan.
     pub fn advance(&mut self, s: &mut S) -> Result<Reply, Refusal>
-        ensures step { Step (meaning s.old) self.old.state self.old.block.now Advance result self.new.state self.new.block.now }
-        ensures frame { meaning s.new ≡ meaning s.old }
+        ensures step { Step (S.meaning s.old) self.old.state self.old.block.now Advance result self.new.state self.new.block.now }
+        ensures frame { S.meaning s.new ≡ S.meaning s.old }
         ensures lender { self.new.block.ghost_name ≡ self.old.block.ghost_name }
     {
         self.call(s, Call::Advance)
@@ -116,8 +116,8 @@ impl<'a, S: Scheme> Window<'a, S> {
     // Line k, opened. Refuses with Moment where the window is not finished, else with Place where k is not below the size, with Strange
     // under another modulus, with Malformed where a pair that is read is malformed.
     pub fn line(&mut self, s: &mut S, k: usize) -> Result<Reply, Refusal>
-        ensures step { Step (meaning s.old) self.old.state self.old.block.now (LineCall k) result self.new.state self.new.block.now }
-        ensures frame { meaning s.new ≡ meaning s.old }
+        ensures step { Step (S.meaning s.old) self.old.state self.old.block.now (LineCall k) result self.new.state self.new.block.now }
+        ensures frame { S.meaning s.new ≡ S.meaning s.old }
         ensures lender { self.new.block.ghost_name ≡ self.old.block.ghost_name }
     {
         self.call(s, Call::Line { k })
