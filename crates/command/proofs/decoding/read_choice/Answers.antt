@@ -30,6 +30,6 @@ pub returns-in_ok-modulus-2 : goal.returns-in_ok-modulus-2
 unfolding choice_of choice_by
 returns-in_ok-modulus-2 c = search rules
 
-pub returns-in-default : goal.returns-in-default
+pub returns-in_default : goal.returns-in_default
 unfolding choice_of choice_by
-returns-in-default c = search rules
+returns-in_default c = search rules

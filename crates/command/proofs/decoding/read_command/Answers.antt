@@ -50,6 +50,6 @@ pub returns-in-r : goal.returns-in-r
 unfolding command_of command_by
 returns-in-r c = search rules
 
-pub returns-in-default : goal.returns-in-default
+pub returns-in_default : goal.returns-in_default
 unfolding command_of command_by
-returns-in-default c = search rules
+returns-in_default c = search rules

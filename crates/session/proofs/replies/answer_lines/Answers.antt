@@ -15,4 +15,4 @@ loop-next-preserved c =
 -- all of them
 pub returns : goal.returns
 returns c =
-    session_whole c.args.lines.now (vec_items c.loop-next.answers) (subst (λ (o : Option Chosen). Served absent c.args.lines.now (vec_items c.loop-next.answers) o) c.in-default.is c.loop-next.invariant.0)
+    session_whole c.args.lines.now (vec_items c.loop-next.answers) (subst (λ (o : Option Chosen). Served absent c.args.lines.now (vec_items c.loop-next.answers) o) c.in_default.is c.loop-next.invariant.0)

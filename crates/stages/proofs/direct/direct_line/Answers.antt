@@ -23,6 +23,6 @@ returns g c =
     let long : size ≤ length xs = omega arith in
     let less : c.args.k < size = omega arith in
     record {
-      value = summed m (g.met.S.Scheme.sound s) p c.args.k q size xs r c.size-size.ensures c.twiddle_scale.ensures long less c.in-default.ensures.value h;
+      value = summed m (g.met.S.Scheme.sound s) p c.args.k q size xs r c.size-size.ensures c.twiddle_scale.ensures long less c.in_default.ensures.value h;
       frame = c.sum_of_products.ensures.frame ∙ f;
     }

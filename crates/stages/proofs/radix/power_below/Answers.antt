@@ -15,7 +15,7 @@ overflow_mul-power c = let h : c.loop-i.power * c.args.radix ≤ 256 * 4 = small
 pub loop-i-preserved : goal.loop-i-preserved
 loop-i-preserved c =
     let h : c.loop-i.power * c.args.radix ≤ 256 * 4 = small c in
-    (ap (λ x. x * c.args.radix) c.loop-i.invariant.0 ∙ sym (pow-suc c.args.radix c.loop-i.-i) ∙ ap (λ x. c.args.radix ^ x) (sym (add-one c.loop-i.-i)), omega arith)
+    (ap (λ x. x * c.args.radix) c.loop-i.invariant.0 ∙ sym (pow-suc c.args.radix c.loop-i._i) ∙ ap (λ x. c.args.radix ^ x) (sym (add-one c.loop-i._i)), omega arith)
 
 pub returns-then-power-size : goal.returns-then-power-size
-returns-then-power-size c = power_passes c.args.radix c.loop-i.-i c.args.t c.args.size c.requires.0 c.loop-i-test.true (omega arith)
+returns-then-power-size c = power_passes c.args.radix c.loop-i._i c.args.t c.args.size c.requires.0 c.loop-i-test.true (omega arith)

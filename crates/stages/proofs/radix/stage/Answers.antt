@@ -9,14 +9,14 @@ use Rattle.stages.proofs.radix.stage.Given as given
 use Rattle.stages.proofs.radix.stage.Goals as goal
 
 -- r · r^t lies within the size
-steps : (g : given.Over) (c : goal.In-default-first_malformed g) → (0 < c.in-Some.span) × (0 < c.in-Some.radix * c.in-Some.span) × (c.in-Some.radix * c.in-Some.span ≤ 256)
+steps : (g : given.Over) (c : goal.In_default-first_malformed g) → (0 < c.in-Some.span) × (0 < c.in-Some.radix * c.in-Some.span) × (c.in-Some.radix * c.in-Some.span ≤ 256)
 steps g c = size_step c.args.plan.now c.args.t c.in-Some.radix c.in-Some.span c.in-Some.ensures
 
 pub overflow_mul-groups : goal.overflow_mul-groups
 overflow_mul-groups g c = let h = steps g c in omega arith
 
-pub nonzero-div-groups : goal.nonzero-div-groups
-nonzero-div-groups g c = (steps g c).1
+pub nonzero_div-groups : goal.nonzero_div-groups
+nonzero_div-groups g c = (steps g c).1
 
 pub cross_all-requires : goal.cross_all-requires
 cross_all-requires g c =
@@ -48,7 +48,7 @@ returns g c =
     let q = c.twiddle_scale.result in
     let before = c.args.block.now in
     let after = c.cross_all.new.block in
-    let formed : Found m before p.size None = subst (λ n. Found m before n None) z c.in-default-first_malformed.ensures.value in
+    let formed : Found m before p.size None = subst (λ n. Found m before n None) z c.in_default-first_malformed.ensures.value in
     let made : (t : ℕ) → span ≡ r ^ t → Making m q r t groups (groups * span) before after =
     subst (λ w. (t : ℕ) → span ≡ r ^ t → Making w q r t groups (groups * span) before after) f c.cross_all.ensures.made
     in

@@ -14,7 +14,7 @@ advanced-requires g c =
 pub returns-in_ok-kept : goal.returns-in_ok-kept
 returns-in_ok-kept g c =
     let m = g.S.Scheme.meaning c.args.s.now in
-    let p = c.in-default-Plan in
+    let p = c.in_default-Plan in
     let kept = c.in_ok-kept.kept in
     let bl = c.args.block.now in
     let h = c.in_ok-kept.ensures.value in

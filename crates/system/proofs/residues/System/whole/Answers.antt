@@ -5,7 +5,7 @@ use Rattle.system.proofs.residues.System.whole.Goals as goal
 pub overflow_mul-result-2 : goal.overflow_mul-result-2
 overflow_mul-result-2 c = let h = product_most c.args.self.now in search rules
 
-pub invariant-of-result : goal.invariant-of-result
-invariant-of-result c =
+pub invariant_of-result : goal.invariant_of-result
+invariant_of-result c =
     let s = c.args.self.now in
-    (product_odd s, (product_least s, (omega (arith, product_most s), tt)))
+    record { odd = product_odd s; least = product_least s; most = omega (arith, product_most s) }
