@@ -9,7 +9,7 @@ pub returns-in_err-fits : goal.returns-in_err-fits
 returns-in_err-fits g c =
     let m = g.S.Scheme.meaning c.args.s.now in
     let p = c.in_ok-plan.plan in
-    let e = err_from_is_err_and c.from-residual-in_err-fits.result c.from-residual-in_err-fits.ensures.1 in
+    let e = err_from_is_err_and c.from_residual-in_err-fits.result c.from_residual-in_err-fits.ensures.1 in
     let made = c.in_ok-plan.ensures in
     let x = c.in_err-fits.ensures in
     let l : p.size ≤ length c.args.block.now = omega (arith, c.size.ensures) in

@@ -11,13 +11,13 @@ advanced-requires g c =
     let h = running_fits (length c.args.block.now) c.args.state.now kept c.in-Running-Advance.done c.in-Running-Advance.is-0 c.requires in
     omega (arith, h.1, stages_few kept.plan.method kept.plan.size)
 
-pub returns-in_ok-kept : goal.returns-in_ok-kept
-returns-in_ok-kept g c =
+pub returns-in_ok-kept-in_default-Plan : goal.returns-in_ok-kept-in_default-Plan
+returns-in_ok-kept-in_default-Plan g c =
     let m = g.S.Scheme.meaning c.args.s.now in
     let p = c.in_default-Plan in
-    let kept = c.in_ok-kept.kept in
+    let kept = c.in_ok-kept-in_default-Plan.kept in
     let bl = c.args.block.now in
-    let h = c.in_ok-kept.ensures.value in
+    let h = c.in_ok-kept-in_default-Plan.ensures.value in
     record {
       step =
           subst (λ k. Step m c.args.state.now bl k (Ok Done) (Filling kept 0) bl) (sym p.is-1)
@@ -26,8 +26,8 @@ returns-in_ok-kept g c =
       frame = c.plan_for.ensures.frame;
     }
 
-pub returns-in_ok-advance_at : goal.returns-in_ok-advance_at
-returns-in_ok-advance_at g c =
+pub returns-in_ok-advance_at-in-Running-Advance : goal.returns-in_ok-advance_at-in-Running-Advance
+returns-in_ok-advance_at-in-Running-Advance g c =
     let m = g.S.Scheme.meaning c.args.s.now in
     let kept = c.in-Running-Advance.kept in
     let t = c.in-Running-Advance.done in
@@ -36,7 +36,7 @@ returns-in_ok-advance_at g c =
     let st = c.args.state.now in
     let r = c.advanced.result in
     let f = running_fits (length bl) st kept t c.in-Running-Advance.is-0 c.requires in
-    let h = c.in_ok-advance_at.ensures.value in
+    let h = c.in_ok-advance_at-in-Running-Advance.ensures.value in
     let l : kept.plan.size ≤ length after = omega (arith, f.0, h.1.long) in
     let d : t + 1 ≤ stages_for kept.plan = omega (arith, f.1) in
     record {
@@ -47,14 +47,14 @@ returns-in_ok-advance_at g c =
       frame = c.advance_at.ensures.frame;
     }
 
-pub returns-in_ok-state : goal.returns-in_ok-state
-returns-in_ok-state g c =
+pub returns-in_ok-state-in-Filling-Begin : goal.returns-in_ok-state-in-Filling-Begin
+returns-in_ok-state-in-Filling-Begin g c =
     let m = g.S.Scheme.meaning c.args.s.now in
     let kept = c.in-Filling-Begin.kept in
     let bl = c.args.block.now in
     let st = c.args.state.now in
-    let r = c.in_ok-state.field-0 in
-    let h = c.in_ok-state.ensures in
+    let r = c.in_ok-state-in-Filling-Begin.field-0 in
+    let h = c.in_ok-state-in-Filling-Begin.ensures in
     let f = filling_fits (length bl) st kept c.in-Filling-Begin.count c.in-Filling-Begin.is-0 c.requires in
     record {
       step =
