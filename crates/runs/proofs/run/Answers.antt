@@ -35,5 +35,5 @@ returns g c =
     record { run = run_ends whole (search rules); houses = secrecy_stands; frame = frame }
 
 -- where memory fails
-pub returns-in_err-note : goal.returns-in_err-note
-returns-in_err-note g c = record { run = search rules; houses = secrecy_stands; frame = search rules }
+pub returns-in_err-note-clause-houses : goal.returns-in_err-note-clause-houses
+returns-in_err-note-clause-houses g c = secrecy_stands

@@ -10,25 +10,25 @@ pub returns-in_err-letter : goal.returns-in_err-letter
 unfolding choice_of choice_by
 returns-in_err-letter c = search rules
 
-pub returns-in_err-modulus : goal.returns-in_err-modulus
+pub returns-in_err-modulus-in-r : goal.returns-in_err-modulus-in-r
 unfolding choice_of choice_by
-returns-in_err-modulus c = search rules
+returns-in_err-modulus-in-r c = search rules
 
-pub returns-in_err-modulus-2 : goal.returns-in_err-modulus-2
+pub returns-in_err-modulus-in-p : goal.returns-in_err-modulus-in-p
 unfolding choice_of choice_by
-returns-in_err-modulus-2 c = search rules
+returns-in_err-modulus-in-p c = search rules
 
-pub returns-in_ok-modulus : goal.returns-in_ok-modulus
+pub returns-in_ok-modulus-in-r : goal.returns-in_ok-modulus-in-r
 unfolding choice_of choice_by
-returns-in_ok-modulus c = search rules
+returns-in_ok-modulus-in-r c = search rules
 
 pub returns-in-y : goal.returns-in-y
 unfolding choice_of choice_by
 returns-in-y c = search rules
 
-pub returns-in_ok-modulus-2 : goal.returns-in_ok-modulus-2
+pub returns-in_ok-modulus-in-p : goal.returns-in_ok-modulus-in-p
 unfolding choice_of choice_by
-returns-in_ok-modulus-2 c = search rules
+returns-in_ok-modulus-in-p c = search rules
 
 pub returns-in_default : goal.returns-in_default
 unfolding choice_of choice_by

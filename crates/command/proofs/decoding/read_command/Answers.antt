@@ -6,33 +6,33 @@ pub returns-in_err-letter : goal.returns-in_err-letter
 unfolding command_of command_by
 returns-in_err-letter c = search rules
 
-pub returns-in_err-rest : goal.returns-in_err-rest
+pub returns-in_err-rest-in-s : goal.returns-in_err-rest-in-s
 unfolding command_of command_by
-returns-in_err-rest c = search rules
+returns-in_err-rest-in-s c = search rules
 
-pub returns-in_err-rest-2 : goal.returns-in_err-rest-2
+pub returns-in_err-rest-in-p : goal.returns-in_err-rest-in-p
 unfolding command_of command_by
-returns-in_err-rest-2 c = search rules
+returns-in_err-rest-in-p c = search rules
 
-pub returns-in_err-rest-3 : goal.returns-in_err-rest-3
+pub returns-in_err-rest-in-l : goal.returns-in_err-rest-in-l
 unfolding command_of command_by
-returns-in_err-rest-3 c = search rules
+returns-in_err-rest-in-l c = search rules
 
-pub returns-in_err-rest-4 : goal.returns-in_err-rest-4
+pub returns-in_err-rest-in-g : goal.returns-in_err-rest-in-g
 unfolding command_of command_by
-returns-in_err-rest-4 c = search rules
+returns-in_err-rest-in-g c = search rules
 
-pub returns-in_ok-rest : goal.returns-in_ok-rest
+pub returns-in_ok-rest-in-s : goal.returns-in_ok-rest-in-s
 unfolding command_of command_by
-returns-in_ok-rest c = search rules
+returns-in_ok-rest-in-s c = search rules
 
-pub returns-in_ok-rest-2 : goal.returns-in_ok-rest-2
+pub returns-in_ok-rest-in-p : goal.returns-in_ok-rest-in-p
 unfolding command_of command_by
-returns-in_ok-rest-2 c = search rules
+returns-in_ok-rest-in-p c = search rules
 
-pub returns-in_ok-rest-3 : goal.returns-in_ok-rest-3
+pub returns-in_ok-rest-in-l : goal.returns-in_ok-rest-in-l
 unfolding command_of command_by
-returns-in_ok-rest-3 c = search rules
+returns-in_ok-rest-in-l c = search rules
 
 pub returns-in-b : goal.returns-in-b
 unfolding command_of command_by
@@ -42,9 +42,9 @@ pub returns-in-a : goal.returns-in-a
 unfolding command_of command_by
 returns-in-a c = search rules
 
-pub returns-in_ok-rest-4 : goal.returns-in_ok-rest-4
+pub returns-in_ok-rest-in-g : goal.returns-in_ok-rest-in-g
 unfolding command_of command_by
-returns-in_ok-rest-4 c = search rules
+returns-in_ok-rest-in-g c = search rules
 
 pub returns-in-r : goal.returns-in-r
 unfolding command_of command_by
