@@ -120,7 +120,7 @@ def main():
             if part(name, ".args") is None:
                 (CASES / (name + ".out")).write_bytes(reply(input_of(name)))
         return
-    program = os.path.abspath(sys.argv[1] if len(sys.argv) > 1 else "target/bin/console")
+    program = os.path.abspath(sys.argv[1] if len(sys.argv) > 1 else "crates/console/out/console")
     passed = failed = 0
     missing = sorted((set(WORKED) | set(SAME)) - set(names()))
     for name in names() + missing:

@@ -82,7 +82,7 @@ def main():
     options.add_argument("--count", type=int, default=1000, metavar="N")
     options.add_argument("--jobs", type=int, default=2, metavar="J")
     options.add_argument("--fuzz", action="store_true", help="scripts of random bytes")
-    options.add_argument("program", nargs="?", default="target/bin/console", metavar="PROGRAM")
+    options.add_argument("program", nargs="?", default="crates/console/out/console", metavar="PROGRAM")
     asked = options.parse_args()
     program = os.path.abspath(asked.program)
     if not os.access(program, os.X_OK):

@@ -1,6 +1,5 @@
 -- The command that is read is the one that is spelled.
-use Rattle.std.proofs.Common.{◌≡◌, ℕ, true, cond, eqb, ◌⊎◌, List, [], ◌∷◌, ◌++◌, ℤ, Some, None, Option, sym, refl, ap, ◌∙◌, subst, inl, inr, eqb-true}
-use Rattle.integers.specs.declared.Complex.{Complex}
+use Rattle.std.proofs.Common.{◌≡◌, ℕ, true, cond, eqb, List, [], ◌∷◌, ◌++◌, Some, None, Option, sym, refl, ap, ◌∙◌, subst, inl, inr, eqb-true}
 use Rattle.integers.specs.Complex.{complex}
 use Rattle.plan.specs.declared.method.Method.{Method}
 use Rattle.plan.specs.declared.method.Method.TheVariants.{Direct, Radix2, Radix4}
@@ -8,7 +7,7 @@ use Rattle.command.specs.declared.kinds.Choice.TheVariants.{Plain, System, Split
 use Rattle.command.specs.declared.kinds.Command.{Command}
 use Rattle.command.specs.declared.kinds.Command.TheVariants.{Choose, Plan, Load, Begin, Advance, Line, Restart}
 use Rattle.command.specs.Fields.{cut_at, letter_of, numeral_of, number_and_rest, whole_and_rest}
-use Rattle.command.specs.Spelling.{Numeral, Whole, method_letter, LoadFields, Spells, SpelledOnce}
+use Rattle.command.specs.Spelling.{method_letter, Spells, SpelledOnce}
 use Rattle.command.specs.Decoding.{also, first_of, fields_of, method_of, alone_of, system_of, choice_by, choice_of, plan_of, load_of, line_of, command_by, command_of}
 use Rattle.command.proofs.Spelled.{some_same, none_some, also_some, cond_some, letter_from, cut_from, numeral_from, numeral_to, number_then_from, number_then_to, whole_then_from, whole_then_to}
 

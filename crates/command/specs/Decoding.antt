@@ -1,5 +1,5 @@
 -- A line read from the left, field by field. What this amounts to is said in Spelling.
-use Rattle.std.specs.Prelude.{◌≡◌, ℕ, cond, List, ℤ, Some, None, Option, ◌==◌}
+use Rattle.std.specs.Prelude.{ℕ, cond, List, Some, None, Option, ◌==◌}
 use Rattle.integers.specs.Complex.{complex}
 use Rattle.plan.specs.declared.method.Method.{Method}
 use Rattle.plan.specs.declared.method.Method.TheVariants.{Direct, Radix2, Radix4}

@@ -1,5 +1,5 @@
 -- How commands are spelled: which lines are commands, and which.
-use Rattle.std.specs.Prelude.{◌≡◌, ℕ, ◌+◌, ◌-◌, ◌*◌, ◌^◌, ◌≤◌, Bool, true, false, ◌&&◌, ◌⊎◌, List, [], ◌∷◌, ◌++◌, length, ℤ, pos, neg_ℤ, Ok, Err, codes, Result}
+use Rattle.std.specs.Prelude.{◌≡◌, ℕ, ◌+◌, ◌-◌, ◌*◌, ◌^◌, ◌≤◌, Bool, true, ◌&&◌, ◌⊎◌, List, [], ◌∷◌, ◌++◌, length, ℤ, pos, neg_ℤ, Ok, Err, codes, Result}
 use Rattle.std.specs.Char.{is_ascii_digit}
 use Rattle.integers.specs.declared.Complex.{Complex}
 use Rattle.plan.specs.declared.method.Method.{Method}

@@ -1,5 +1,5 @@
 -- A run call by call: what the calls so far have done, one call more, and the law on opened lines over the whole run.
-use Rattle.std.proofs.Common.{◌≡◌, ℕ, true, List, [], ◌∷◌, ◌++◌, Some, None, Ok, Err, Option, Result, sym, refl, ap, ◌∙◌, subst, arith}
+use Rattle.std.proofs.Common.{◌≡◌, ℕ, List, [], ◌∷◌, ◌++◌, Some, None, Ok, Err, Option, Result, sym, refl, ap, ◌∙◌, subst, arith}
 use Rattle.refusal.specs.declared.kinds.Refusal.{Refusal}
 use Rattle.scheme.specs.Meaning.{Meaning, Sound}
 use Rattle.states.specs.declared.State.{State}

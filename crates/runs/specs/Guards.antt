@@ -11,7 +11,7 @@ use Rattle.plain.specs.Residues.{residues}
 use Rattle.states.specs.declared.State.{State}
 use Rattle.states.specs.declared.State.TheVariants.{Idle}
 use Rattle.states.specs.declared.Call.{Call}
-use Rattle.states.specs.declared.Call.TheVariants.{Plan as PlanCall, Load, Begin, Advance, Line as LineCall}
+use Rattle.states.specs.declared.Call.TheVariants.{Plan as PlanCall, Load, Begin, Line as LineCall}
 use Rattle.states.specs.declared.Line.{Line}
 use Rattle.states.specs.declared.Reply.TheVariants.{Done, Opened}
 use Rattle.states.specs.Step.{Pairs, Step}

@@ -1,5 +1,5 @@
 -- Runs of a list of calls on a new window, and what is right about their answers.
-use Rattle.std.specs.Prelude.{◌≡◌, ℕ, List, [], ◌∷◌, ◌++◌, Ok, Err, Result}
+use Rattle.std.specs.Prelude.{◌≡◌, List, [], ◌∷◌, ◌++◌, Ok, Err, Result}
 use Rattle.refusal.specs.declared.kinds.Refusal.{Refusal}
 use Rattle.scheme.specs.Meaning.{Meaning}
 use Rattle.states.specs.declared.State.{State}

@@ -1,5 +1,5 @@
 -- Blocks that a house cannot tell apart: at every place its halves are equal, and the pairs are both well formed or both not.
-use Rattle.std.proofs.Common.{◌≡◌, ℕ, zero, suc, ◌+◌, ◌<◌, ◌≤◌, Bool, true, false, cond, ◌&&◌, List, [], ◌∷◌, map, length, get_or, set, Some, None, Option, sym, refl, ap, ◌∙◌, ap₂, le_of_suc-le-suc, not-suc-le-zero, arith, ext_get_or}
+use Rattle.std.proofs.Common.{◌≡◌, ℕ, zero, suc, ◌+◌, ◌<◌, ◌≤◌, Bool, true, false, cond, List, [], ◌∷◌, map, length, get_or, set, Some, None, Option, sym, refl, ap, ◌∙◌, ap₂, arith, ext_get_or}
 use borrow.Author.Tests.{clash}
 use lib.ListN.{get_or-map}
 use Rattle.scheme.specs.Meaning.{Meaning}
@@ -8,7 +8,7 @@ use Rattle.split.specs.declared.halves.Halves.{Halves}
 use Rattle.split.specs.Shares.{split}
 use Rattle.stages.specs.Block.{well_formed as sound, is_well_formed_at as sound_at}
 use Rattle.states.specs.Step.{Pairs, first_malformed_place, malformed_from}
-use Rattle.secrecy.specs.Secrecy.{half, halves}
+use Rattle.secrecy.specs.Secrecy.{halves}
 
 abbrev pub Pair : Type 0
 Pair = Halves ℕ × Halves ℕ

@@ -1,5 +1,5 @@
 -- Where a call is possible over a block, the call with a second sample is possible over an alike block, and leads to the same state.
-use Rattle.std.proofs.Common.{◌≡◌, ℕ, zero, suc, ◌<◌, Bool, true, false, cond, eqb, List, [], ◌∷◌, set, Some, None, Ok, Err, Option, Result, sym, refl, ap, ◌∙◌, subst}
+use Rattle.std.proofs.Common.{◌≡◌, ℕ, ◌<◌, Bool, true, eqb, List, [], ◌∷◌, set, Some, None, Ok, Err, Option, Result, sym, refl, ◌∙◌, subst}
 use Rattle.integers.specs.declared.Complex.{Complex}
 use Rattle.integers.specs.Modulus.{is_modulus}
 use Rattle.refusal.specs.declared.kinds.Refusal.{Refusal}
@@ -13,15 +13,15 @@ use Rattle.states.specs.declared.Call.{Call}
 use Rattle.states.specs.declared.Call.TheVariants.{Plan as PlanCall, Load, Begin, Advance, Line as LineCall, Restart}
 use Rattle.states.specs.declared.Reply.{Reply}
 use Rattle.states.specs.declared.Reply.TheVariants.{Done, Opened}
-use Rattle.states.specs.Step.{Pairs, Step, StepBy, Declined, Accepted, Becomes, Planned, Advanced, declined, malformed, first_malformed_place, progress, stages_for, stated, line_read}
+use Rattle.states.specs.Step.{Pairs, Step, StepBy, Accepted, Advanced, declined, malformed, first_malformed_place, stages_for, stated, line_read}
 use Rattle.states.specs.History.{Numbers, plan_after}
-use Rattle.secrecy.specs.Secrecy.{After, Answers, answers_of, Run, SecondSamples, hidden_pairs, bringing, replaced}
+use Rattle.secrecy.specs.Secrecy.{After, answers_of, Run, SecondSamples, hidden_pairs, bringing, replaced}
 use Rattle.secrecy.specs.Masks.{masks}
-use Rattle.secrecy.proofs.Blocks.{Pair, shares, known, Alike, alike_malformed}
+use Rattle.secrecy.proofs.Blocks.{Pair, shares, Alike, alike_malformed}
 use Rattle.secrecy.proofs.Steps.{Tied, tied_step, AlikeLoad, declined_same, step_same, unless_later, malformed_none}
 use Rattle.secrecy.proofs.Masks.{split_sound, positive}
 use Rattle.secrecy.proofs.Making.{after, stage_made}
-use Rattle.secrecy.proofs.Runs.{Next, next}
+use Rattle.secrecy.proofs.Runs.{next}
 
 -- the call is accepted over the block, and comes to the state
 record Accepts (n : ℕ) (st : State) (ys : Pairs (Halves ℕ)) (c : Call (Halves ℕ)) (st' : State) : Type 0 where

@@ -1,5 +1,5 @@
 -- The law on houses is not empty.
-use Rattle.std.proofs.Common.{◌≡◌, ℕ, List, [], ◌∷◌, pos, None, Ok, refl, arith, lit≤}
+use Rattle.std.proofs.Common.{ℕ, List, [], ◌∷◌, pos, None, Ok, refl, lit≤}
 use Rattle.integers.specs.Complex.{complex}
 use Rattle.integers.specs.Residue.{residue, centred}
 use Rattle.circle.specs.Circle.{circle, point}
@@ -14,7 +14,7 @@ use Rattle.stages.specs.Block.{is_well_formed_at as sound_at, read_at}
 use Rattle.states.specs.declared.Kept.{Kept}
 use Rattle.states.specs.declared.State.TheVariants.{Idle, Filling, Finished}
 use Rattle.states.specs.declared.Reply.TheVariants.{Done, Opened}
-use Rattle.states.specs.Step.{Pairs, Step, first_malformed_place}
+use Rattle.states.specs.Step.{Pairs, first_malformed_place}
 use Rattle.secrecy.specs.Secrecy.{After, Run, hidden_pair}
 use Rattle.secrecy.specs.Guards.{one_start, one_calls, OneLine, SecrecySpeaks}
 use Rattle.secrecy.proofs.Blocks.{shares}

@@ -1,5 +1,5 @@
 -- Every stage that is due can be done: each half of each pair is mixed by itself.
-use Rattle.std.proofs.Common.{◌≡◌, ℕ, zero, suc, ◌+◌, ◌-◌, ◌*◌, ◌/◌, ◌%◌, ◌^◌, ◌<◌, ◌≤◌, Bool, true, false, cond, ◌&&◌, ltb, List, [], ◌∷◌, length, get_or, ℤ, pos, ◌+ℤ◌, Some, None, sym, refl, ap, ◌∙◌, subst, ap₂, le_of_suc-le-suc, not-suc-le-zero, add-zero, add-suc, suc-add, arith, le-ltb, lt-ltb}
+use Rattle.std.proofs.Common.{◌≡◌, ℕ, zero, suc, ◌+◌, ◌-◌, ◌*◌, ◌^◌, ◌<◌, ◌≤◌, Bool, true, false, cond, ltb, List, [], ◌∷◌, length, get_or, ℤ, pos, None, sym, refl, ap, ◌∙◌, subst, le_of_suc-le-suc, not-suc-le-zero, add-zero, add-suc, suc-add, arith, le-ltb, lt-ltb}
 use native.Mathlib.Decide.{dec_lt}
 use lib.ListN.{get_or-eq_default}
 use Rattle.integers.specs.declared.Complex.{Complex}
@@ -11,14 +11,14 @@ use Rattle.plan.specs.Methods.{base}
 use Rattle.lines.specs.Lines.{mix}
 use Rattle.lines.specs.Places.{place}
 use Rattle.lines.proofs.Places.{place_below, place_group, place_offset, place_entry}
-use Rattle.scheme.specs.Meaning.{Meaning, Sound, View}
-use Rattle.scheme.specs.Hidden.{Stands, StandsPair, read_pair}
+use Rattle.scheme.specs.Meaning.{View}
+use Rattle.scheme.specs.Hidden.{StandsPair}
 use Rattle.split.specs.declared.halves.Halves.{Halves}
 use Rattle.stages.specs.Block.{well_formed as sound, is_well_formed_at as sound_at}
 use Rattle.stages.specs.Stage.{entries}
 use Rattle.stages.proofs.Blocks.{sound_there}
 use Rattle.states.specs.Step.{Pairs, StageDone, stages_for, first_malformed_place}
-use Rattle.secrecy.specs.Secrecy.{half, halves}
+use Rattle.secrecy.specs.Secrecy.{half}
 use Rattle.secrecy.proofs.Blocks.{Pair, shares, sound_below, sound_within}
 use Rattle.secrecy.proofs.Stages.{group, offset, entry, place_of_digits, offset_below, entry_below, base_positive, size_covered}
 use Rattle.secrecy.proofs.Mixing.{Agree, agree_mix, mix_sum}

@@ -1,5 +1,5 @@
 -- The mask words: they are taken, the second samples can be sealed with them, and the house's half comes out the same.
-use Rattle.std.proofs.Common.{◌≡◌, ℕ, zero, suc, ◌+◌, ◌-◌, ◌*◌, ◌/◌, ◌%◌, ◌^◌, ◌<◌, ◌≤◌, Bool, true, false, cond, ◌&&◌, eqb, ltb, leb, List, [], ◌∷◌, ℤ, pos, ◌+ℤ◌, ◌-ℤ◌, neg_ℤ, nat_abs, sym, refl, ap, ◌∙◌, subst, ap₂, suc-mul, mul_comm, arith, ltb-true, lt-ltb, eqb-true, leb-false, leb-true}
+use Rattle.std.proofs.Common.{◌≡◌, ℕ, zero, suc, ◌+◌, ◌*◌, ◌/◌, ◌%◌, ◌^◌, ◌<◌, ◌≤◌, Bool, true, false, cond, ◌&&◌, eqb, ltb, leb, [], ◌∷◌, ℤ, pos, ◌-ℤ◌, nat_abs, sym, refl, ap, ◌∙◌, ap₂, suc-mul, mul_comm, arith, ltb-true, lt-ltb, eqb-true, leb-false, leb-true}
 use borrow.Author.Differences.{ints}
 use Rattle.integers.specs.declared.Complex.{Complex}
 use Rattle.integers.specs.Modulus.{is_modulus}
@@ -15,12 +15,11 @@ use Rattle.lines.specs.Laws.{Within}
 use Rattle.scheme.specs.Meaning.{Meaning, Sound, View}
 use Rattle.plain.specs.Residues.{residues}
 use Rattle.split.specs.declared.halves.Halves.{Halves}
-use Rattle.split.specs.Shares.{split, Masked}
 use Rattle.split.proofs.Laws.{seal_splits}
 use Rattle.stages.specs.Block.{well_formed as sound}
-use Rattle.secrecy.specs.Secrecy.{half, halves, hidden, hidden_pair, SealedAs}
+use Rattle.secrecy.specs.Secrecy.{half, hidden, hidden_pair, SealedAs}
 use Rattle.secrecy.specs.Masks.{word, words}
-use Rattle.secrecy.proofs.Blocks.{Pair, Known, shares, known}
+use Rattle.secrecy.proofs.Blocks.{Pair, shares, known}
 use Rattle.secrecy.proofs.Stages.{and_first, and_second}
 
 -- ---- the modulus

@@ -1,8 +1,8 @@
 -- Mixing modulo n: it depends on residues alone, and the mix of a sum is the sum of the mixes.
-use Rattle.std.proofs.Common.{◌≡◌, ℕ, zero, suc, ◌*◌, ◌/◌, ◌^◌, ◌<◌, ◌≤◌, ℤ, pos, ◌+ℤ◌, sym, refl, ap, ◌∙◌, ap₂, arith}
+use Rattle.std.proofs.Common.{◌≡◌, ℕ, zero, suc, ◌*◌, ◌/◌, ◌^◌, ◌<◌, refl, ap, ◌∙◌, arith}
 use borrow.Author.Differences.{ints}
 use Rattle.integers.specs.declared.Complex.{Complex}
-use Rattle.integers.specs.Complex.{complex, ◌⊕◌, ◌⊗◌, quarter_turn_of}
+use Rattle.integers.specs.Complex.{◌⊕◌, ◌⊗◌, quarter_turn_of}
 use Rattle.integers.specs.Residue.{residue}
 use Rattle.integers.proofs.Residues.{same_sum, same_opposite, same_difference, same_multiple}
 use Rattle.integers.proofs.ComplexRing.{complex_same, ⊗-⊕, turn-⊕}

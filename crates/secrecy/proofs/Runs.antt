@@ -1,13 +1,11 @@
 -- Whole lists of calls: the calls with the second samples, one by one.
-use Rattle.std.proofs.Common.{◌≡◌, ℕ, zero, suc, ◌<◌, ◌≤◌, Bool, true, false, cond, ◌&&◌, eqb, ltb, leb, List, [], ◌∷◌, map, length, Some, None, Ok, Err, Option, Result, sym, refl, ap, ◌∙◌, subst, ap₂, arith}
+use Rattle.std.proofs.Common.{◌≡◌, ℕ, suc, ◌<◌, ◌≤◌, Bool, true, false, ◌&&◌, eqb, ltb, leb, List, [], ◌∷◌, length, None, Ok, Err, Option, Result, sym, refl, ap, subst, arith}
 use Rattle.integers.specs.declared.Complex.{Complex}
 use Rattle.integers.specs.Modulus.{is_modulus}
 use Rattle.integers.specs.Residue.{half as bound}
 use Rattle.refusal.specs.declared.kinds.Refusal.{Refusal}
 use Rattle.refusal.specs.declared.kinds.Refusal.TheVariants.{Moment, Place, Strange, Malformed}
-use Rattle.plan.specs.Making.{meaning_of}
 use Rattle.lines.specs.Laws.{Within}
-use Rattle.scheme.specs.Meaning.{Sound}
 use Rattle.split.specs.declared.halves.Halves.{Halves}
 use Rattle.stages.specs.Block.{well_formed as sound}
 use Rattle.states.specs.declared.Kept.{Kept}
@@ -16,13 +14,13 @@ use Rattle.states.specs.declared.State.TheVariants.{Idle, Filling, Running, Fini
 use Rattle.states.specs.declared.Call.{Call}
 use Rattle.states.specs.declared.Call.TheVariants.{Plan as PlanCall, Load, Begin, Advance, Line as LineCall, Restart}
 use Rattle.states.specs.declared.Reply.{Reply}
-use Rattle.states.specs.Step.{Pairs, Step, StepBy, Declined, Accepted, unless}
+use Rattle.states.specs.Step.{Pairs, Step, StepBy, Declined, unless}
 use Rattle.states.specs.History.{Numbers, plan_after}
-use Rattle.secrecy.specs.Secrecy.{After, Answers, answers_of, Run, loaded, InScale, SampleFirst, SecondSamples, hidden_pair, hidden_pairs, bringing, replaced_first, replaced, SealedAs, SealedUnder, SealedFirst, AllSealed, WordsBelow, AllSame, SameToHouse}
+use Rattle.secrecy.specs.Secrecy.{After, Answers, answers_of, Run, loaded, InScale, SecondSamples, hidden_pair, hidden_pairs, bringing, replaced, SealedUnder, AllSealed, WordsBelow, AllSame}
 use Rattle.secrecy.specs.Masks.{words, masks}
-use Rattle.secrecy.proofs.Blocks.{Pair, shares, known, Alike, alike_held}
+use Rattle.secrecy.proofs.Blocks.{Pair, shares, Alike, alike_held}
 use Rattle.secrecy.proofs.Stages.{and_first, and_second}
-use Rattle.secrecy.proofs.Steps.{InForce, Tied, tied_step, AlikeLoad, Same, step_same}
+use Rattle.secrecy.proofs.Steps.{InForce, Tied, tied_step, AlikeLoad, step_same}
 use Rattle.secrecy.proofs.Masks.{split_sound, word_below, words_known, sealed_as, scale_sealed}
 
 -- ---- an accepted load

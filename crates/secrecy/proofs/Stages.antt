@@ -1,11 +1,10 @@
 -- A stage of two blocks that a house cannot tell apart leaves two such blocks.
-use Rattle.std.proofs.Common.{◌≡◌, ℕ, zero, suc, ◌+◌, ◌-◌, ◌*◌, ◌/◌, ◌%◌, ◌^◌, ◌<◌, ◌≤◌, Bool, true, false, ◌&&◌, List, [], ◌∷◌, length, get_or, pos, Some, None, sym, refl, ap, ◌∙◌, subst, ap₂, add-zero, add-suc, mod-lt, mul_assoc, div-lt_iff_lt-mul, pow-suc, div-add-mod', mul-one, arith}
+use Rattle.std.proofs.Common.{◌≡◌, ℕ, zero, suc, ◌+◌, ◌-◌, ◌*◌, ◌/◌, ◌%◌, ◌^◌, ◌<◌, ◌≤◌, Bool, true, false, ◌&&◌, [], ◌∷◌, get_or, pos, None, sym, refl, ap, ◌∙◌, subst, ap₂, add-zero, add-suc, mod-lt, mul_assoc, div-lt_iff_lt-mul, pow-suc, div-add-mod', mul-one, arith}
 use mathlib.Core.Path.{fun_ext}
 use native.Mathlib.Nat.{pow-zero, pow-succ', one-le-pow}
 use native.Mathlib.Decide.{dec_lt}
 use Rattle.integers.specs.declared.Complex.{Complex}
 use Rattle.integers.specs.Complex.{complex}
-use Rattle.integers.specs.Residue.{residue}
 use Rattle.plan.specs.declared.method.Method.{Method}
 use Rattle.plan.specs.declared.method.Method.TheVariants.{Direct, Radix2, Radix4}
 use Rattle.plan.specs.declared.plan.Plan.{Plan}
@@ -14,14 +13,14 @@ use Rattle.lines.specs.Lines.{stage_count, mix}
 use Rattle.lines.specs.Places.{place}
 use Rattle.lines.proofs.Places.{place_as, place_below}
 use Rattle.lines.proofs.Sizes.{size2, size4}
-use Rattle.scheme.specs.Meaning.{Meaning, Sound, View}
+use Rattle.scheme.specs.Meaning.{Sound}
 use Rattle.scheme.specs.Hidden.{StandsPair, WellFormed, read_pair}
 use Rattle.scheme.proofs.Standing.{pair_itself}
 use Rattle.split.specs.declared.halves.Halves.{Halves}
-use Rattle.stages.specs.Block.{well_formed as sound, is_well_formed_at as sound_at}
+use Rattle.stages.specs.Block.{well_formed as sound}
 use Rattle.stages.specs.Stage.{entries}
 use Rattle.states.specs.Step.{Pairs, StageDone, stages_for, first_malformed_place}
-use Rattle.secrecy.specs.Secrecy.{half, halves}
+use Rattle.secrecy.specs.Secrecy.{half}
 use Rattle.secrecy.proofs.Blocks.{Pair, Known, shares, known, Alike, alike_length, alike_at, alike_of, sound_below, sound_entry}
 
 -- ---- every place of a stage is an entry of one butterfly

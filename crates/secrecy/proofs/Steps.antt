@@ -1,27 +1,26 @@
 -- One call on two windows that a house cannot tell apart.
-use Rattle.std.proofs.Common.{◌≡◌, ℕ, zero, suc, ◌+◌, ◌-◌, ◌<◌, ◌≤◌, Bool, true, false, cond, ◌&&◌, eqb, ltb, leb, List, [], ◌∷◌, map, length, get_or, set, Some, None, Ok, Err, Option, Result, sym, refl, ap, ◌∙◌, subst, ap₂, arith, eqb-true, leb-true}
+use Rattle.std.proofs.Common.{◌≡◌, ℕ, suc, ◌<◌, ◌≤◌, Bool, true, false, cond, ◌&&◌, eqb, ltb, leb, map, length, set, Some, None, Ok, Err, Option, Result, sym, refl, ap, ◌∙◌, subst, arith, leb-true}
 use borrow.Author.Tests.{eqb-false}
 use Rattle.refusal.specs.declared.kinds.Refusal.{Refusal}
-use Rattle.refusal.specs.declared.kinds.Refusal.TheVariants.{Block, Narrow, Moment, Place, Strange, Malformed, Short}
+use Rattle.refusal.specs.declared.kinds.Refusal.TheVariants.{Block, Narrow, Place, Strange, Malformed}
 use Rattle.plan.specs.declared.method.Method.{Method}
 use Rattle.plan.specs.declared.method.Method.TheVariants.{Direct, Radix2, Radix4}
 use Rattle.plan.specs.declared.plan.Plan.{Plan}
 use Rattle.plan.specs.Meaning.{figures_of, least_modulus_of}
-use Rattle.plan.specs.Making.{Has, meaning_of, refused}
+use Rattle.plan.specs.Making.{meaning_of, refused}
 use Rattle.lines.specs.Places.{place_of}
-use Rattle.scheme.specs.Meaning.{Meaning, Sound}
+use Rattle.scheme.specs.Meaning.{Sound}
 use Rattle.split.specs.declared.halves.Halves.{Halves}
-use Rattle.stages.specs.Block.{well_formed as sound, is_well_formed_at as sound_at}
 use Rattle.states.specs.declared.Kept.{Kept}
 use Rattle.states.specs.declared.State.{State}
 use Rattle.states.specs.declared.State.TheVariants.{Idle, Filling, Running, Finished}
 use Rattle.states.specs.declared.Call.{Call}
 use Rattle.states.specs.declared.Call.TheVariants.{Plan as PlanCall, Load, Begin, Advance, Line as LineCall, Restart}
 use Rattle.states.specs.declared.Reply.{Reply}
-use Rattle.states.specs.declared.Reply.TheVariants.{Done, Opened}
-use Rattle.states.specs.Step.{Pairs, Step, StepBy, Declined, Accepted, Becomes, Planned, Advanced, StageDone, declined, plan_declined, line_malformed, unless, first, malformed, first_malformed_place, progress, stages_for}
+use Rattle.states.specs.declared.Reply.TheVariants.{Done}
+use Rattle.states.specs.Step.{Pairs, Step, StepBy, Accepted, Becomes, Planned, Advanced, declined, plan_declined, line_malformed, unless, first, malformed, first_malformed_place, progress, stages_for}
 use Rattle.states.specs.History.{Numbers, plan_after}
-use Rattle.secrecy.specs.Secrecy.{bringing, refusal_of, halves}
+use Rattle.secrecy.specs.Secrecy.{bringing, refusal_of}
 use Rattle.secrecy.proofs.Plans.{same_plan}
 use Rattle.secrecy.proofs.Blocks.{Pair, Known, shares, known, Alike, alike_length, alike_sound, alike_malformed, alike_set}
 use Rattle.secrecy.proofs.Stages.{stage_alike}

@@ -1,5 +1,5 @@
 -- Under the split over plain residues every list of calls has a run.
-use Rattle.std.proofs.Common.{◌≡◌, ℕ, zero, suc, ◌<◌, ◌≤◌, Bool, true, false, cond, ◌&&◌, eqb, ltb, leb, List, [], ◌∷◌, length, set, Some, None, Ok, Err, Option, Result, sym, refl, ap, ◌∙◌, subst, arith, leb-true}
+use Rattle.std.proofs.Common.{◌≡◌, ℕ, suc, Bool, true, false, cond, eqb, leb, List, [], ◌∷◌, length, set, Some, None, Ok, Err, Option, Result, sym, refl, subst, leb-true}
 use borrow.Author.Tests.{clash}
 use Rattle.integers.specs.Modulus.{is_modulus}
 use Rattle.refusal.specs.declared.kinds.Refusal.{Refusal}
@@ -11,14 +11,13 @@ use Rattle.plan.specs.Methods.{sized}
 use Rattle.plan.specs.Making.{Has, refused, within}
 use Rattle.lines.specs.Places.{place_of}
 use Rattle.split.specs.declared.halves.Halves.{Halves}
-use Rattle.states.specs.declared.Kept.{Kept}
 use Rattle.states.specs.declared.State.{State}
 use Rattle.states.specs.declared.State.TheVariants.{Idle, Filling, Running, Finished}
 use Rattle.states.specs.declared.Call.{Call}
 use Rattle.states.specs.declared.Call.TheVariants.{Plan as PlanCall, Load, Begin, Advance, Line as LineCall, Restart}
 use Rattle.states.specs.declared.Reply.{Reply}
 use Rattle.states.specs.declared.Reply.TheVariants.{Done, Opened}
-use Rattle.states.specs.Step.{Pairs, Step, StepBy, Accepted, Becomes, Planned, declined, plan_declined, first, unless, malformed, first_malformed_place, progress, stages_for, stated, line_read}
+use Rattle.states.specs.Step.{Pairs, Step, StepBy, Accepted, Becomes, declined, first, unless, malformed, first_malformed_place, progress, stated, line_read}
 use Rattle.states.specs.History.{Numbers, plan_after}
 use Rattle.secrecy.specs.Secrecy.{After, Run}
 use Rattle.secrecy.proofs.Blocks.{shares}

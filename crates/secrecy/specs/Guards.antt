@@ -11,7 +11,7 @@ use Rattle.split.specs.declared.halves.Halves.{Halves}
 use Rattle.split.specs.Shares.{split}
 use Rattle.states.specs.declared.State.TheVariants.{Idle}
 use Rattle.states.specs.declared.Call.{Call}
-use Rattle.states.specs.declared.Call.TheVariants.{Plan as PlanCall, Load, Begin, Advance, Line as LineCall, Restart}
+use Rattle.states.specs.declared.Call.TheVariants.{Plan as PlanCall, Load, Begin, Line as LineCall}
 use Rattle.states.specs.declared.Reply.TheVariants.{Done, Opened}
 use Rattle.states.specs.Step.{Pairs}
 use Rattle.states.specs.History.{Numbers}

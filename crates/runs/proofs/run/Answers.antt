@@ -1,7 +1,5 @@
-use Rattle.std.proofs.Common.{◌≡◌, ◌+◌, ◌<◌, ◌≤◌, List, [], ◌∷◌, ◌++◌, length, get_or, take, vec_items, sym, refl, ap, ◌∙◌, subst, arith, rules}
+use Rattle.std.proofs.Common.{◌≡◌, ◌+◌, ◌<◌, [], ◌∷◌, ◌++◌, length, take, vec_items, sym, ap, ◌∙◌, rules}
 use Rattle.std.proofs.lemmas.List.{take_more, take_all}
-use Rattle.scheme.specs.Meaning.{Meaning}
-use Rattle.states.specs.Step.{Step}
 use Rattle.secrecy.proofs.Secrecy.{secrecy_stands}
 use Rattle.runs.specs.Runs.{RunOf, Noted}
 use Rattle.runs.proofs.Running.{SoFar, sofar_more, run_whole, run_ends}

@@ -1,7 +1,7 @@
-use Rattle.std.proofs.Common.{◌≡◌, ℕ, suc, ◌+◌, ◌<◌, ◌≤◌, min, Bool, List, [], ◌∷◌, ◌++◌, length, get_or, take, vec_items, sym, refl, ap, ◌∙◌, subst, add-one, arith}
+use Rattle.std.proofs.Common.{◌≡◌, ℕ, ◌<◌, ◌≤◌, min, Bool, List, [], ◌∷◌, ◌++◌, length, take, vec_items, sym, ap, ◌∙◌, subst, add-one, arith}
 use Rattle.integers.specs.declared.Complex.{Complex}
 use Rattle.secrecy.specs.Secrecy.{Indistinguishable}
-use Rattle.secrecy.specs.Masks.{side, words, words_of}
+use Rattle.secrecy.specs.Masks.{side, words_of}
 use Rattle.secrecy.proofs.Blocks.{Pair}
 use Rattle.secrecy.proofs.Words.{words_next, words_whole, modulus_lawful}
 use Rattle.secrecy.proofs.Secrecy.{masked}

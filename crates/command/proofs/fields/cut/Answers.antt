@@ -1,4 +1,4 @@
-use Rattle.std.proofs.Common.{◌≡◌, ◌<◌, ◌≤◌, true, false, eqb, length, get_or, sym, ◌∙◌, rules, eq-eqb}
+use Rattle.std.proofs.Common.{◌≡◌, ◌<◌, ◌≤◌, true, false, eqb, length, get_or, sym, ◌∙◌, rules}
 use Rattle.std.proofs.lemmas.List.{take_rest}
 use Rattle.command.proofs.Reading.{cut_more, cut_found, cut_all}
 use Rattle.command.proofs.fields.cut.Goals as goal

@@ -1,6 +1,5 @@
-use Rattle.std.proofs.Common.{◌≡◌, ◌+◌, ◌-◌, ◌*◌, ◌^◌, ◌<◌, ◌≤◌, true, false, ◌&&◌, eqb, leb, length, get_or, drop, Some, None, sym, refl, ap, ◌∙◌, arith, rules}
+use Rattle.std.proofs.Common.{◌≡◌, ◌+◌, ◌-◌, ◌*◌, ◌^◌, ◌<◌, ◌≤◌, true, false, ◌&&◌, leb, length, get_or, Some, None, sym, ◌∙◌, arith, rules}
 use Rattle.std.specs.Char.{is_ascii_digit}
-use Rattle.command.specs.Fields.{read_after, numeral_of, limited}
 use Rattle.command.proofs.Reading.{read_more, read_stops, read_all, read_room, read_below, numeral_unfit, numeral_is, limited_in, limited_out}
 use Rattle.command.proofs.fields.numeral.Goals as goal
 

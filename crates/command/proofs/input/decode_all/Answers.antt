@@ -1,7 +1,6 @@
-use Rattle.std.proofs.Common.{◌≡◌, ℕ, ◌<◌, ◌≤◌, List, [], ◌∷◌, ◌++◌, length, vec_items, sym, refl, ap, ◌∙◌, subst, rules}
+use Rattle.std.proofs.Common.{◌≡◌, ℕ, ◌<◌, ◌≤◌, List, [], ◌∷◌, ◌++◌, length, vec_items, sym, subst, rules}
 use Rattle.std.proofs.lemmas.List.{nil_from_length}
-use Rattle.command.specs.Lines.{first_line_of}
-use Rattle.command.proofs.Splitting.{Progress, shorter, progress_more, progress_all}
+use Rattle.command.proofs.Splitting.{shorter, progress_more, progress_all}
 use Rattle.command.proofs.input.decode_all.Goals as goal
 
 pub loop-rest-smaller : goal.loop-rest-smaller
