@@ -110,13 +110,14 @@ def read_bugs():
 
 
 def crates():
-    """The crates, each after those that it rests on, and what each rests on."""
+    """The crates, each after those of the repository that it rests on, and what each rests on."""
     deps = {}
     for line in (REPO / "crates.txt").read_text().splitlines():
         line = line.split("#")[0].strip()
         if line:
             name, _, rest = line.partition(":")
-            deps[name.strip()] = rest.split()
+            deps[name.split()[0]] = rest.split()
+    deps = {name: [d for d in rest if d in deps] for name, rest in deps.items()}
     order = {}
 
     def add(name):
