@@ -1,10 +1,10 @@
 -- The ring of complex whole numbers.
-use Rattle.std.proofs.Common.{◌≡◌, ℕ, ℤ, pos, negsuc, ◌+ℤ◌, ◌-ℤ◌, ◌*ℤ◌, neg_ℤ, sym, refl, ap, ◌∙◌, ap₂, arith}
+use Rattle.std.proofs.Common.{◌≡◌, ℤ, pos, negsuc, ◌+ℤ◌, ◌-ℤ◌, ◌*ℤ◌, refl, ◌∙◌, ap₂, arith}
 use borrow.Author.Differences.{ints}
 use lib.IntN.{*ℤ_comm, +ℤ_comm, +ℤ_assoc}
 use Rattle.integers.specs.declared.Complex.{Complex}
 use Rattle.integers.specs.Complex.{complex, ◌⊕◌, ◌⊖◌, ◌⊗◌, ◌⊙◌, real, quarter_turn_of}
-use Rattle.integers.proofs.Ring.{ring, times_left_comm}
+use Rattle.integers.proofs.Ring.{ring}
 
 -- equal components make equal numbers
 pub complex_same : {a b c d : ℤ} → a ≡ c → b ≡ d → complex a b ≡ complex c d

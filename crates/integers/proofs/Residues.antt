@@ -1,13 +1,13 @@
 -- The laws of residues: a residue is the one number below n that differs by a multiple of n; sums, opposites, differences and
 -- multiples go by residues; the meaning of a residue is the one whole number within half of n.
-use Rattle.std.proofs.Common.{◌≡◌, ℕ, zero, suc, ◌+◌, ◌-◌, ◌*◌, ◌/◌, ◌%◌, ◌^◌, ◌<◌, ◌≤◌, Bool, true, false, cond, leb, ℤ, pos, negsuc, ◌+ℤ◌, ◌-ℤ◌, ◌*ℤ◌, neg_ℤ, nat_abs, sym, refl, ap, ◌∙◌, ap₂, mod-lt, mod-eq_of_lt, suc-mul, arith, w64, SFits, to_z, of_z, le-leb, leb-false, leb-true}
+use Rattle.std.proofs.Common.{◌≡◌, ℕ, zero, suc, ◌+◌, ◌-◌, ◌/◌, ◌%◌, ◌^◌, ◌<◌, ◌≤◌, Bool, true, false, cond, leb, ℤ, pos, negsuc, ◌+ℤ◌, ◌-ℤ◌, ◌*ℤ◌, neg_ℤ, nat_abs, sym, refl, ap, ◌∙◌, ap₂, mod-lt, mod-eq_of_lt, suc-mul, arith, w64, SFits, to_z, of_z, le-leb, leb-false, leb-true}
 use native.Mathlib.Nat.{mod-add-div', mod_self, mod-add-mod, add-mod-mod}
-use borrow.Author.Differences.{ints, neg_is}
+use borrow.Author.Differences.{ints}
 use borrow.Author.Tests.{lt-leb}
 use Rattle.std.proofs.lemmas.Int.{to_z-of_z, to_z_pos}
 use Rattle.std.specs.Int.{int_rem_euclid}
 use Rattle.integers.specs.Residue.{residue, IsResidue, half, centred}
-use Rattle.integers.proofs.Ring.{distrib_right, distrib_left, neg_left, neg_right, times_assoc, ring}
+use Rattle.integers.proofs.Ring.{distrib_right, distrib_left, neg_left, times_assoc}
 
 -- a residue is below n
 pub residue_below : (m : ℤ) (n : ℕ) → 0 < n → residue m n < n

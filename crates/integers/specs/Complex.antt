@@ -1,6 +1,6 @@
 -- Complex whole numbers: sum, difference, opposite, product, the factor −j.
 -- The components here are whole numbers of any size; the struct of the code holds those that fit 64 bits.
-use Rattle.std.specs.Prelude.{ℕ, ℤ, pos, ◌+ℤ◌, ◌-ℤ◌, ◌*ℤ◌, neg_ℤ}
+use Rattle.std.specs.Prelude.{ℤ, pos, ◌+ℤ◌, ◌-ℤ◌, ◌*ℤ◌, neg_ℤ}
 use Rattle.integers.specs.declared.Complex.{Complex}
 
 infixl 6 ◌⊕◌ ◌⊖◌

@@ -1,5 +1,5 @@
 -- No figure of a lawful plan passes what 128 bits hold: figures grow with the scales, and at the largest scales they are computed.
-use Rattle.std.proofs.Common.{◌≡◌, ℕ, zero, suc, ◌+◌, ◌-◌, ◌*◌, ◌/◌, ◌^◌, ◌<◌, ◌≤◌, Bool, true, false, cond, T, ltb, leb, List, [], ◌∷◌, sym, refl, ap, ◌∙◌, le_trans, le_refl, lt_of_lt_of_le, lt_of_le_of_lt, add-le-add, mul-le-mul, arith, lit<, ltb→lt, leb→le, Fits}
+use Rattle.std.proofs.Common.{◌≡◌, ℕ, zero, suc, ◌+◌, ◌*◌, ◌/◌, ◌^◌, ◌<◌, ◌≤◌, Bool, true, false, cond, T, ltb, leb, le_trans, le_refl, lt_of_lt_of_le, lt_of_le_of_lt, add-le-add, mul-le-mul, arith, lit<, ltb→lt, leb→le, Fits}
 use mir.Syntax.{w128}
 use Rattle.std.proofs.lemmas.Nat.{mul-lt}
 use Rattle.circle.specs.Spread.{spread}
@@ -7,8 +7,8 @@ use Rattle.plan.specs.declared.method.Method.{Method}
 use Rattle.plan.specs.declared.method.Method.TheVariants.{Direct, Radix2, Radix4}
 use Rattle.plan.specs.declared.figures.Figures.{Figures}
 use Rattle.plan.specs.Methods.{sizes, sized, base, rounding}
-use Rattle.plan.specs.Meaning.{figures, directly, exact, stage, growth, radix, figures_of, Representable}
-use Rattle.plan.proofs.Powers.{Each, carried}
+use Rattle.plan.specs.Meaning.{directly, exact, stage, growth, radix, figures_of, Representable}
+use Rattle.plan.proofs.Powers.{carried}
 
 -- no figure of f passes that of g
 pub record Under (f g : Figures) : Type 0 where

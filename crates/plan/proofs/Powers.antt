@@ -1,5 +1,5 @@
 -- The sizes: a fact at each of them is a fact of every lawful size; they are the powers of the base up to 256.
-use Rattle.std.proofs.Common.{◌≡◌, ℕ, zero, suc, ◌+◌, ◌*◌, ◌^◌, ◌<◌, ◌≤◌, Bool, true, false, cond, eqb, List, [], ◌∷◌, sym, refl, subst, arith, lit≤, pow_mono, eqb-true}
+use Rattle.std.proofs.Common.{◌≡◌, ℕ, zero, suc, ◌^◌, ◌<◌, ◌≤◌, Bool, true, false, cond, eqb, List, [], ◌∷◌, sym, refl, subst, arith, lit≤, pow_mono, eqb-true}
 use native.Mathlib.Nat.{pow-le-pow_left}
 use native.Mathlib.Decide.{dec_lt}
 use borrow.Author.Tests.{clash}

@@ -1,11 +1,11 @@
 -- The rules of the figures hold of the definition, and at lawful sizes of nothing else.
-use Rattle.std.proofs.Common.{◌≡◌, ℕ, zero, suc, ◌+◌, ◌-◌, ◌*◌, ◌/◌, ◌<◌, ◌≤◌, Bool, true, false, cond, List, [], ◌∷◌, sym, refl, ap, ◌∙◌, arith, le-leb}
+use Rattle.std.proofs.Common.{◌≡◌, ℕ, ◌*◌, ◌/◌, ◌<◌, ◌≤◌, true, sym, refl, ap, ◌∙◌, arith, le-leb}
 use Rattle.plan.specs.declared.method.Method.{Method}
 use Rattle.plan.specs.declared.method.Method.TheVariants.{Direct, Radix2, Radix4}
 use Rattle.plan.specs.declared.figures.Figures.{Figures}
 use Rattle.plan.specs.Methods.{sizes, sized, base, rounding}
-use Rattle.plan.specs.Meaning.{figures, exact, stage, growth, radix, directly, figures_of, FigureRules, OneMeaning}
-use Rattle.plan.proofs.Powers.{Each, carried}
+use Rattle.plan.specs.Meaning.{exact, stage, growth, radix, figures_of, FigureRules, OneMeaning}
+use Rattle.plan.proofs.Powers.{carried}
 
 -- at size n a radix line is a stage on top of the size below
 abbrev StepAt : Method → ℕ → ℕ → ℕ → Type 0

@@ -1,5 +1,5 @@
 -- Making a plan from four numbers: which refusal answers, and what the plan holds.
-use Rattle.std.specs.Prelude.{◌≡◌, ℕ, Bool, true, false, cond, Some, None, Ok, Err, Option, Result, nat_le}
+use Rattle.std.specs.Prelude.{◌≡◌, ℕ, Bool, false, cond, Some, None, Ok, Err, Option, Result, nat_le}
 use Rattle.refusal.specs.declared.kinds.Refusal.{Refusal}
 use Rattle.refusal.specs.declared.kinds.Refusal.TheVariants.{Size, SampleScale, TwiddleScale}
 use Rattle.plan.specs.declared.method.Method.{Method}

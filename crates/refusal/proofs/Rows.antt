@@ -1,5 +1,5 @@
 -- Number and place tell the refusal: there is a way back from them.
-use Rattle.std.proofs.Common.{◌≡◌, ℕ, ◌≤◌, List, [], ◌∷◌, get_or, Some, None, Option, unwrap_or, sym, refl, ◌∙◌, ap₂, lit≤}
+use Rattle.std.proofs.Common.{◌≡◌, ℕ, ◌≤◌, [], ◌∷◌, get_or, Option, unwrap_or, sym, refl, ◌∙◌, ap₂, lit≤}
 use Rattle.refusal.specs.declared.kinds.Refusal.{Refusal}
 use Rattle.refusal.specs.declared.kinds.Refusal.TheVariants.{Size, SampleScale, TwiddleScale, Block, Narrow, Moment, Place, Strange, Malformed, Short, Large, Mask, Modulus, Garbled, Long}
 use Rattle.refusal.specs.Row.{row, Distinct}

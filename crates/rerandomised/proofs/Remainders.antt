@@ -1,5 +1,5 @@
 -- Numbers below twice the modulus, by their remainders.
-use Rattle.std.proofs.Common.{◌≡◌, ℕ, ◌+◌, ◌*◌, ◌%◌, ◌<◌, true, sym, refl, ap, ◌∙◌, mod-lt, mod-eq_of_lt, arith, lt-ltb}
+use Rattle.std.proofs.Common.{◌≡◌, ℕ, ◌+◌, ◌*◌, ◌%◌, ◌<◌, ap, ◌∙◌, mod-lt, arith, lt-ltb}
 use native.Mathlib.Nat.{mod_self, mod-mod, add-mod, add-mod_right}
 use Rattle.integers.proofs.Residues.{sum_of_remainders}
 use Rattle.scheme.specs.Meaning.{Zero, Sum, Opposite}

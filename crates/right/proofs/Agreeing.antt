@@ -10,7 +10,7 @@ use Rattle.lines.specs.Lines.{sum_below, direct_line_of}
 use Rattle.lines.specs.Laws.{meant}
 use Rattle.scheme.specs.Meaning.{Meaning, Sound}
 use Rattle.scheme.specs.Hidden.{StandsPair, WellFormed}
-use Rattle.scheme.specs.Sealing.{means, means_pair}
+use Rattle.scheme.specs.Sealing.{means_pair}
 use Rattle.scheme.proofs.Standing.{read_agrees}
 use Rattle.stages.specs.Block.{read_at}
 use Rattle.stages.specs.Stage.{entries}

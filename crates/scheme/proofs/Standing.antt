@@ -1,10 +1,9 @@
 -- What stands for what after the calls of a scheme, stated over the meaning alone.
-use Rattle.std.proofs.Common.{◌≡◌, ℕ, suc, ◌+◌, ◌*◌, ◌/◌, ◌%◌, ◌<◌, true, ℤ, pos, negsuc, ◌+ℤ◌, ◌-ℤ◌, ◌*ℤ◌, neg_ℤ, nat_abs, sym, refl, ap, ◌∙◌, arith}
+use Rattle.std.proofs.Common.{◌≡◌, ℕ, ◌+◌, ◌/◌, ◌%◌, ◌<◌, true, ℤ, pos, ◌+ℤ◌, ◌-ℤ◌, ◌*ℤ◌, neg_ℤ, sym, ap, ◌∙◌, arith}
 use native.Mathlib.Nat.{zero-mod}
-use borrow.Author.Differences.{ints}
 use lib.IntN.{zero-*ℤ}
 use Rattle.integers.specs.declared.Complex.{Complex}
-use Rattle.integers.specs.Complex.{complex, ◌⊕◌, ◌⊖◌, ◌⊗◌, ◌⊙◌, quarter_turn_of}
+use Rattle.integers.specs.Complex.{◌⊕◌, ◌⊖◌, ◌⊗◌, ◌⊙◌, quarter_turn_of}
 use Rattle.integers.specs.Residue.{residue}
 use Rattle.integers.proofs.Ring.{distrib_right, neg_left, one_left}
 use Rattle.integers.proofs.Residues.{residue_pos, residue_small, residue_cancels, residue_twice, same_sum, same_opposite, same_difference, same_multiple}

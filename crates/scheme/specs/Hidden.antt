@@ -1,9 +1,9 @@
 -- What hidden numbers and hidden pairs stand for, in each view.
-use Rattle.std.specs.Prelude.{◌≡◌, ℕ, true, ℤ, pos, ◌+ℤ◌, ◌*ℤ◌, neg_ℤ}
+use Rattle.std.specs.Prelude.{◌≡◌, true, ℤ, pos}
 use Rattle.integers.specs.declared.Complex.{Complex}
-use Rattle.integers.specs.Complex.{complex, ◌⊕◌, ◌⊖◌, ◌⊗◌, quarter_turn_of}
+use Rattle.integers.specs.Complex.{complex}
 use Rattle.integers.specs.Residue.{residue}
-use Rattle.scheme.specs.Meaning.{Meaning, View, Sum, Opposite, Zero}
+use Rattle.scheme.specs.Meaning.{Meaning, View}
 
 -- x stands for the whole number z in the view v: it is well formed, and what is read is the residue of z
 pub record Stands {Number : Type 0} (s : Meaning Number) (v : View) (z : ℤ) (x : Number) : Type 0 where

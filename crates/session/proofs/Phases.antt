@@ -61,20 +61,20 @@ goes_all m ds before st bl rs h past w held embeds ready = (held st bl, subst (�
 ready_chosen : (w v : Console) (ds : List Decoded) (rs : List Answer) (c : Choice) (s : Chosen) → length rs < length ds → get_or ds (length rs) (Ok (Choose c)) ≡ Ok (Choose c) → Makes c s → Turns w (take (length rs) ds) rs v → ReadyFor w ds (rs ++ Ok Done ∷ []) s
 ready_chosen w v ds rs (PlainChoice n) (Plain p) low is (lawful, e) h =
     λ start long. turns_next w v (plain p.modulus.n Idle start) ds rs (Ok (Choose (PlainChoice n))) (Ok Done) low is h (inl (lawful, refl, (start, long, ap (λ (k : ℕ). plain k Idle start) e)))
-ready_chosen w v ds rs (PlainChoice n) (System s) low is IfOk h = absurd made
-ready_chosen w v ds rs (PlainChoice n) (Split p) low is IfOk h = absurd made
-ready_chosen w v ds rs (SystemChoice p q r) (Plain x) low is IfOk h = absurd made
-ready_chosen w v ds rs (SystemChoice p q r) (System s) low is IfOk h =
-    λ start long. turns_next w v (system s Idle start) ds rs (Ok (Choose (SystemChoice p q r))) (Ok Done) low is h (inl (IfOk.lawful, refl, (s, made, start, long, refl)))
-ready_chosen w v ds rs (SystemChoice p q r) (Split x) low is IfOk h = absurd made
-ready_chosen w v ds rs (SplitChoice n) (Plain p) low is IfOk h = absurd made
-ready_chosen w v ds rs (SplitChoice n) (System s) low is IfOk h = absurd made
+ready_chosen w v ds rs (PlainChoice n) (System s) low is made h = absurd made
+ready_chosen w v ds rs (PlainChoice n) (Split p) low is made h = absurd made
+ready_chosen w v ds rs (SystemChoice p q r) (Plain x) low is made h = absurd made
+ready_chosen w v ds rs (SystemChoice p q r) (System s) low is made h =
+    λ start long. turns_next w v (system s Idle start) ds rs (Ok (Choose (SystemChoice p q r))) (Ok Done) low is h (inl (made.lawful, refl, (s, made, start, long, refl)))
+ready_chosen w v ds rs (SystemChoice p q r) (Split x) low is made h = absurd made
+ready_chosen w v ds rs (SplitChoice n) (Plain p) low is made h = absurd made
+ready_chosen w v ds rs (SplitChoice n) (System s) low is made h = absurd made
 ready_chosen w v ds rs (SplitChoice n) (Split p) low is (lawful, e) h =
     λ start long. turns_next w v (shared p.modulus.n Idle start) ds rs (Ok (Choose (SplitChoice n))) (Ok Done) low is h (inl (lawful, refl, (start, long, ap (λ (k : ℕ). shared k Idle start) e)))
 
 pub goes_chosen : {N : Type 0} (m : Meaning N) (ds : List Decoded) (before : List Answer) (st : State) (bl : Pairs N) (rs : List Answer) → Goes m ds before st bl rs → (i : ℕ) (d : Decoded) → i < length ds → length rs ≡ i → (s : Chosen) → (c : Choice) × (get_or ds i d ≡ Ok (Choose c)) × Makes c s → ServedFrom m ds before (rs ++ Ok Done ∷ []) (Some s)
-goes_chosen m ds before st bl rs h i d low e s (c, is, IfOk) w held embeds ready =
-    ready_chosen w (held st bl) ds rs c s (next_low ds rs i low e) (subst (λ (x : Decoded). get_or ds (length rs) x ≡ x) is (next_is ds rs i d low e)) IfOk (h w held embeds ready)
+goes_chosen m ds before st bl rs h i d low e s (c, is, made) w held embeds ready =
+    ready_chosen w (held st bl) ds rs c s (next_low ds rs i low e) (subst (λ (x : Decoded). get_or ds (length rs) x ≡ x) is (next_is ds rs i d low e)) made (h w held embeds ready)
 
 -- windows under each scheme are held by the console
 declined_turn : {N : Type 0} (held : State → Pairs N → Console) (x : Refusal) (st : State) (bl : Pairs N) (a : Answer) (st' : State) (bl' : Pairs N) → Declined x st bl a st' bl' → (a ≡ Err x) × (held st' bl' ≡ held st bl)
@@ -122,8 +122,8 @@ pub waits_more : (ds : List Decoded) (rs : List Answer) → Waits ds rs → (i :
 waits_more ds rs h i d low e a t = turns_next absent absent absent ds rs (get_or ds i d) a (next_low ds rs i low e) (next_is ds rs i d low e) h t
 
 pub waits_chosen : (ds : List Decoded) (rs : List Answer) → Waits ds rs → (i : ℕ) (d : Decoded) → i < length ds → length rs ≡ i → (s : Chosen) → (c : Choice) × (get_or ds i d ≡ Ok (Choose c)) × Makes c s → Served absent ds (rs ++ Ok Done ∷ []) (Some s)
-waits_chosen ds rs h i d low e s (c, is, IfOk) =
-    ready_chosen absent absent ds rs c s (next_low ds rs i low e) (subst (λ (x : Decoded). get_or ds (length rs) x ≡ x) is (next_is ds rs i d low e)) IfOk h
+waits_chosen ds rs h i d low e s (c, is, made) =
+    ready_chosen absent absent ds rs c s (next_low ds rs i low e) (subst (λ (x : Decoded). get_or ds (length rs) x ≡ x) is (next_is ds rs i d low e)) made h
 
 pub waits_all : (ds : List Decoded) (rs : List Answer) → Waits ds rs → length ds ≤ length rs → Served absent ds rs None
 waits_all ds rs h past = (absent, subst (λ (xs : List Decoded). Turns absent xs rs absent) (take_all (length rs) ds past) h)

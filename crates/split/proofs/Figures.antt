@@ -1,13 +1,13 @@
 -- The worked figure, from what seal owes.
-use Rattle.std.proofs.Common.{◌≡◌, ℕ, ◌<◌, ◌≤◌, true, false, ℤ, pos, negsuc, ◌-ℤ◌, Ok, Err, Result, sym, refl, ap, ◌∙◌, ap₂, arith, lit≤}
+use Rattle.std.proofs.Common.{◌≡◌, ℕ, true, false, pos, negsuc, ◌-ℤ◌, Ok, Err, Result, refl, ◌∙◌, ap₂, arith}
 use Rattle.refusal.specs.declared.kinds.Refusal.{Refusal}
 use Rattle.integers.specs.Residue.{residue, centred}
 use Rattle.plain.specs.Residues.{residues}
-use Rattle.scheme.specs.Meaning.{Seals, TooLarge, NotTaken, hides}
+use Rattle.scheme.specs.Meaning.{Seals, TooLarge, NotTaken}
 use Rattle.scheme.proofs.Refusing.{refuses_never}
 use Rattle.split.specs.declared.halves.Halves.{Halves}
 use Rattle.split.specs.Shares.{split, SealsHalves}
-use Rattle.split.specs.Figure.{figure, SealedFigure}
+use Rattle.split.specs.Figure.{SealedFigure}
 
 rest : residue (negsuc 4 -ℤ pos 70) 81 ≡ 6
 unfolding residue

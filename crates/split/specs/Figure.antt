@@ -1,5 +1,5 @@
 -- The worked figure of the split: −5 with the mask word 70, over the plain residues modulo 81.
-use Rattle.std.specs.Prelude.{◌≡◌, ℕ, ℤ, negsuc, Ok, Result}
+use Rattle.std.specs.Prelude.{◌≡◌, ℕ, negsuc, Ok, Result}
 use Rattle.refusal.specs.declared.kinds.Refusal.{Refusal}
 use Rattle.plain.specs.Residues.{residues}
 use Rattle.scheme.specs.Meaning.{hides}

@@ -1,5 +1,5 @@
 -- The meaning of the split over a scheme, and what its calls do to each half.
-use Rattle.std.specs.Prelude.{◌≡◌, ℕ, ◌+◌, ◌%◌, Bool, true, false, ◌&&◌, List, [], ◌∷◌, ℤ, pos, ◌-ℤ◌, Ok, Err, Result, nat_lt}
+use Rattle.std.specs.Prelude.{◌≡◌, ℕ, ◌+◌, ◌%◌, true, false, ◌&&◌, [], ◌∷◌, ℤ, pos, ◌-ℤ◌, Ok, Err, Result, nat_lt}
 use Rattle.refusal.specs.declared.kinds.Refusal.{Refusal}
 use Rattle.integers.specs.Residue.{residue}
 use Rattle.scheme.specs.Meaning.{Meaning, View, Zero, Sum, Opposite, hides}

@@ -1,11 +1,10 @@
 -- Histories: calls with their answers, the newest first. The plan in force and the samples last loaded are read off them alone.
-use Rattle.std.specs.Prelude.{◌≡◌, ℕ, ◌*◌, ◌^◌, ◌<◌, true, cond, List, [], ◌∷◌, Some, None, Ok, Err, Option, Result, ◌==◌}
+use Rattle.std.specs.Prelude.{◌≡◌, ℕ, ◌*◌, ◌^◌, ◌<◌, cond, List, [], ◌∷◌, Some, None, Ok, Err, Option, Result, ◌==◌}
 use Rattle.integers.specs.declared.Complex.{Complex}
 use Rattle.integers.specs.Complex.{complex}
 use Rattle.circle.specs.Near.{Near, multiple}
 use Rattle.refusal.specs.declared.kinds.Refusal.{Refusal}
 use Rattle.plan.specs.declared.method.Method.{Method}
-use Rattle.plan.specs.declared.figures.Figures.{Figures}
 use Rattle.plan.specs.Meaning.{figures_of}
 use Rattle.lines.specs.Lines.{line_of, fine_line_of}
 use Rattle.lines.specs.Laws.{Samples}

@@ -1,5 +1,5 @@
 -- The number of stages at a lawful size, by the zeros at the end of its binary digits.
-use Rattle.std.proofs.Common.{◌≡◌, ℕ, ◌/◌, true, sym, refl, subst}
+use Rattle.std.proofs.Common.{◌≡◌, ℕ, ◌/◌, true, refl, subst}
 use lib.Count.{count_trailing_zeros}
 use Rattle.plan.specs.declared.method.Method.{Method}
 use Rattle.plan.specs.declared.method.Method.TheVariants.{Radix2, Radix4}

@@ -1,5 +1,5 @@
 -- A plan that does not fit the modulus.
-use Rattle.std.proofs.Common.{◌≡◌, ℕ, ◌<◌, ◌≤◌, true, false, leb, length, Some, None, sym, refl, ap, ◌∙◌, arith, le-leb}
+use Rattle.std.proofs.Common.{◌≡◌, ℕ, ◌<◌, ◌≤◌, true, false, leb, length, Some, None, refl, arith, le-leb}
 use borrow.Author.Tests.{lt-leb}
 use Rattle.refusal.specs.declared.kinds.Refusal.TheVariants.{Narrow}
 use Rattle.plan.specs.declared.method.Method.{Method}

@@ -1,15 +1,14 @@
 -- From what a stage and a direct line answer to what the calls answer.
-use Rattle.std.proofs.Common.{◌≡◌, ℕ, ◌<◌, ◌≤◌, Bool, true, false, cond, eqb, ◌⊎◌, [], length, get_or, Some, None, Ok, Err, Option, Result, sym, refl, ap, ◌∙◌, subst, inl, inr, arith}
+use Rattle.std.proofs.Common.{◌≡◌, ℕ, ◌<◌, ◌≤◌, true, false, eqb, ◌⊎◌, [], length, get_or, Some, None, Ok, Err, Result, sym, refl, ap, ◌∙◌, subst, inl, inr, arith}
 use Rattle.refusal.specs.declared.kinds.Refusal.{Refusal}
 use Rattle.refusal.specs.declared.kinds.Refusal.TheVariants.{Size, SampleScale, TwiddleScale, Block, Narrow, Moment, Place, Strange, Malformed, Short, Large, Mask, Modulus, Garbled, Long}
 use Rattle.plan.specs.declared.method.Method.{Method}
 use Rattle.plan.specs.declared.method.Method.TheVariants.{Direct, Radix2, Radix4}
 use Rattle.plan.specs.declared.plan.Plan.{Plan}
 use Rattle.scheme.specs.Meaning.{Meaning, Sound}
-use Rattle.scheme.specs.Hidden.{StandsPair, read_pair, WellFormed}
+use Rattle.scheme.specs.Hidden.{StandsPair, WellFormed}
 use Rattle.scheme.proofs.Standing.{pair_itself}
 use Rattle.stages.specs.Block.{well_formed, is_well_formed_at, read_at}
-use Rattle.stages.specs.Search.{Found}
 use Rattle.stages.specs.Stage.{StageAnswer, StageRefused}
 use Rattle.stages.specs.Direct.{DirectAnswer, DirectRefused}
 use Rattle.stages.proofs.Blocks.{sound_there, read_there, both_true}

@@ -1,22 +1,21 @@
 -- From what the parts of a call answer to the step, and what every state keeps.
-use Rattle.std.proofs.Common.{◌≡◌, ℕ, zero, suc, ◌+◌, ◌/◌, ◌<◌, ◌≤◌, Bool, true, false, cond, ◌&&◌, eqb, ltb, leb, length, Some, None, Ok, Err, Option, sym, refl, ap, ◌∙◌, subst, add-one, arith, ltb-true, lt-ltb, eq-eqb, le-leb, leb-true}
-use borrow.Author.Tests.{clash, eqb-false}
+use Rattle.std.proofs.Common.{◌≡◌, ℕ, zero, suc, ◌+◌, ◌/◌, ◌<◌, ◌≤◌, Bool, true, false, cond, ◌&&◌, eqb, ltb, leb, length, Some, None, Ok, Option, sym, refl, ap, ◌∙◌, subst, add-one, arith, ltb-true, lt-ltb, le-leb, leb-true}
+use borrow.Author.Tests.{eqb-false}
 use Rattle.refusal.specs.declared.kinds.Refusal.{Refusal}
 use Rattle.refusal.specs.declared.kinds.Refusal.TheVariants.{Block, Narrow}
 use Rattle.plan.specs.declared.method.Method.{Method}
 use Rattle.plan.specs.declared.method.Method.TheVariants.{Direct, Radix2, Radix4}
 use Rattle.plan.specs.Meaning.{figures_of, least_modulus_of}
-use Rattle.plan.specs.Making.{Has, refused}
+use Rattle.plan.specs.Making.{refused}
 use Rattle.lines.specs.Lines.{divisions, stage_count}
 use Rattle.scheme.specs.Meaning.{Meaning}
 use Rattle.stages.proofs.Blocks.{both_true}
 use Rattle.states.specs.declared.Kept.{Kept}
 use Rattle.states.specs.declared.State.{State}
-use Rattle.states.specs.declared.State.TheVariants.{Idle, Filling, Running, Finished}
-use Rattle.states.specs.declared.Call.{Call}
-use Rattle.states.specs.declared.Call.TheVariants.{Plan as PlanCall, Load, Begin, Advance, Line as LineCall, Restart}
+use Rattle.states.specs.declared.State.TheVariants.{Filling, Running, Finished}
+use Rattle.states.specs.declared.Call.TheVariants.{Plan as PlanCall, Begin, Advance}
 use Rattle.states.specs.declared.Reply.TheVariants.{Done}
-use Rattle.states.specs.Step.{Pairs, Step, StepBy, Accepted, Planned, Advanced, plan_declined, declined, first, unless, fits, progress, stages_for}
+use Rattle.states.specs.Step.{Pairs, Step, Planned, Advanced, plan_declined, declined, first, unless, fits, progress, stages_for}
 use Rattle.window.specs.Parts.{Planning, Advancing}
 
 -- there are at most 8 stages

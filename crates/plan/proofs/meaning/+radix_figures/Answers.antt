@@ -1,5 +1,5 @@
 -- The size below leaves room for the stage, and the rule of the radix gives the result.
-use Rattle.std.proofs.Common.{sym, ◌∙◌, rules}
+use Rattle.std.proofs.Common.{sym, ◌∙◌}
 use Rattle.plan.proofs.Powers.{at_most_256}
 use Rattle.plan.proofs.Rules.{radix_from, small}
 use Rattle.plan.proofs.Limits.{limited_below, growth_limited, rounding_limited}

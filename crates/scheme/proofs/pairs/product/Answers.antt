@@ -1,6 +1,5 @@
-use Rattle.std.proofs.Common.{◌≡◌, true, ◌*ℤ◌, ◌∙◌, w64, SFits, rules}
+use Rattle.std.proofs.Common.{◌≡◌, ◌*ℤ◌, ◌∙◌, w64, SFits, rules}
 use Rattle.std.proofs.lemmas.Int.{to_z-of_z}
-use Rattle.scheme.specs.Meaning.{View}
 use Rattle.scheme.specs.Hidden.{Stands, read}
 use Rattle.scheme.proofs.Standing.{carry_difference, sum_stands}
 use Rattle.scheme.proofs.pairs.product.Goals as goal

@@ -1,4 +1,4 @@
-use Rattle.std.proofs.Common.{◌≡◌, ◌%◌, ◌<◌, true, ap, ◌∙◌, ap₂, mod-eq_of_lt, w64, SFits, rules}
+use Rattle.std.proofs.Common.{◌≡◌, ◌%◌, ◌<◌, ap, ◌∙◌, ap₂, mod-eq_of_lt, w64, SFits, rules}
 use Rattle.std.proofs.lemmas.Int.{to_z-of_z}
 use Rattle.integers.specs.Residue.{centred}
 use Rattle.scheme.specs.Meaning.{hides}

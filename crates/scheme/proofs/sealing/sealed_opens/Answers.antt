@@ -1,4 +1,4 @@
-use Rattle.std.proofs.Common.{◌≡◌, ap, ◌∙◌}
+use Rattle.std.proofs.Common.{ap, ◌∙◌}
 use Rattle.integers.specs.Residue.{centred}
 use Rattle.integers.proofs.Residues.{centred_only}
 use Rattle.scheme.proofs.sealing.sealed_opens.Goals as goal

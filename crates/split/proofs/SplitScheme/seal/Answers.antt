@@ -1,4 +1,4 @@
-use Rattle.std.proofs.Common.{◌≡◌, ◌+◌, ◌%◌, ◌<◌, ◌≤◌, [], pos, ◌-ℤ◌, nat_abs, sym, ap, ◌∙◌, ap₂, arith, w64, to_z, of_z, rules}
+use Rattle.std.proofs.Common.{◌≡◌, ◌+◌, ◌%◌, ◌<◌, ◌≤◌, [], pos, ◌-ℤ◌, nat_abs, ap, ◌∙◌, ap₂, arith, w64, rules}
 use Rattle.std.proofs.lemmas.Int.{to_z-of_z}
 use Rattle.integers.specs.Residue.{residue, half}
 use Rattle.scheme.specs.Hidden.{Stands}

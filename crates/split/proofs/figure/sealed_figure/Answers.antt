@@ -1,7 +1,4 @@
 use Rattle.std.proofs.Common.{◌≡◌, ap, ◌∙◌}
-use Rattle.scheme.specs.Meaning.{Seals}
-use Rattle.split.specs.Shares.{split, SealsHalves}
-use Rattle.plain.specs.Residues.{residues}
 use Rattle.split.proofs.Figures.{figure_stands_lem}
 use Rattle.split.proofs.figure.sealed_figure.Goals as goal
 

@@ -1,4 +1,4 @@
-use Rattle.std.proofs.Common.{◌-◌, ◌/◌, refl, arith, w64, Fits, rules}
+use Rattle.std.proofs.Common.{◌/◌, refl, arith, w64, Fits, rules}
 use native.Mathlib.Nat.{div-lt_self}
 use Rattle.stages.proofs.Reversal.{no_digits, one_digit, digits_below}
 use Rattle.stages.proofs.place.+reversed.Goals as goal

@@ -1,6 +1,5 @@
-use Rattle.std.proofs.Common.{◌≡◌, ◌<◌, true, false, ◌⊎◌, length, sym, ◌∙◌, inl, inr, ⊎_elim, arith}
+use Rattle.std.proofs.Common.{◌≡◌, ◌<◌, ◌⊎◌, length, sym, ◌∙◌, inl, inr, ⊎_elim, arith}
 use Rattle.plan.specs.declared.method.Method.TheVariants.{Radix2, Radix4}
-use Rattle.stages.specs.Block.{well_formed}
 use Rattle.window.proofs.Staging.{reading_direct, reading_there, reading_malformed}
 use Rattle.window.proofs.parts.read_line.Goals as goal
 

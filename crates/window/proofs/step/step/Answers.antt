@@ -1,7 +1,7 @@
-use Rattle.std.proofs.Common.{◌≡◌, ◌+◌, ◌<◌, ◌≤◌, true, length, Ok, sym, refl, ap, ◌∙◌, subst, arith}
+use Rattle.std.proofs.Common.{◌≡◌, ◌+◌, ◌≤◌, true, length, Ok, sym, refl, subst, arith}
 use Rattle.states.specs.declared.Reply.TheVariants.{Done}
 use Rattle.states.specs.declared.State.TheVariants.{Filling}
-use Rattle.states.specs.Step.{Step, fits, progress, stages_for}
+use Rattle.states.specs.Step.{Step, fits, stages_for}
 use Rattle.window.proofs.Stepping.{stages_few, filling_fits, running_fits, progress_fits, planned_fits, planned, begun, advanced}
 use Rattle.window.proofs.step.step.Goals as goal
 

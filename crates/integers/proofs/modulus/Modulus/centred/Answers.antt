@@ -1,4 +1,4 @@
-use Rattle.std.proofs.Common.{◌%◌, sym, mod-lt, arith, rules}
+use Rattle.std.proofs.Common.{◌%◌, mod-lt, arith, rules}
 use borrow.Author.Differences.{ints}
 use Rattle.integers.proofs.Residues.{centred_low, centred_high}
 use Rattle.integers.proofs.modulus.Modulus.centred.Goals as goal

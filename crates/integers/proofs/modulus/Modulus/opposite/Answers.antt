@@ -1,4 +1,4 @@
-use Rattle.std.proofs.Common.{◌<◌, mod-lt, arith, rules}
+use Rattle.std.proofs.Common.{◌<◌, mod-lt, arith}
 use Rattle.integers.proofs.Residues.{lack_cancels}
 use Rattle.integers.proofs.modulus.Modulus.opposite.Goals as goal
 

@@ -1,8 +1,6 @@
 -- The figures of a lawful plan are representable.
 use Rattle.std.proofs.Common.{◌≡◌, rules}
-use Rattle.plan.specs.declared.plan.Plan.{Plan}
 use Rattle.plan.specs.Making.{meaning_of}
-use Rattle.plan.specs.Meaning.{Representable}
 use Rattle.plan.proofs.Limits.{representable}
 use Rattle.plan.proofs.plan.Plan.figures.Goals as goal
 
