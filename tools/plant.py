@@ -185,8 +185,11 @@ def check(scratch, crate, jobs):
     proved = done.returncode == 0 and bool(verdicts) and verdicts[-1].startswith("logic=proved")
     below = re.search(r"^rt: the library (\S+) did not build, so nothing above it was checked$", out, re.M)
     # what comes before was said of libraries that were built, or by a quick pass over the sources
-    last = out if proved else re.split(r"^logic=proved.*$", out, flags=re.M)[-1]
-    return proved, below.group(1) if below else crate, last
+    last = re.split(r"^logic=proved.*$", out, flags=re.M)[-1]
+    quick = re.search(r"^only=.*$", last, re.M)
+    if quick and "logic=not-proved" not in last[: quick.start()]:
+        last = last[quick.end() :]
+    return proved, below.group(1) if below else crate, out if proved else last
 
 
 def said(scratch, crate, out):
