@@ -12,16 +12,17 @@ CRATE.statements.txt. A bug is a few lines, and an empty line ends it:
     note: what a reader should know of the result (this line may be left out)
 
 Lines that start with '#' are passed over. Each bug is planted in a scratch copy of the repository, which is kept
-between runs with what rt knows of it, so that mostly what changed is proved again. The crate is checked with
-'rt dev'. A bug in specs/ that the crate lets through is tried on the crates above it as well, in order, until one
-refuses it. Results are kept, so that an interrupted run goes on where it stopped: a bug is tried again where the
-bug or the sources of its crate have changed.
+between runs with what rt keeps in each crate's out/, so that mostly what changed is proved again. The crate is
+checked with 'rt check' in its folder. A bug in specs/ that the crate lets through is tried on the crates above it as
+well, in order, until one refuses it. A bug that rt cannot read or compile, or gives no verdict on, is a bad edit and
+counts for nothing. Results are kept, so that an interrupted run goes on where it stopped: a bug is tried again where
+the bug or the sources of its crate have changed.
 
     tools/plant.py                      plant all
     tools/plant.py --crate NAME         those of one crate (may be given several times)
     tools/plant.py --label L            one bug (may be given several times)
     tools/plant.py --code, --statements those in code alone, or those in statements alone
-    tools/plant.py --jobs N             RT_JOBS for rt (1 unless given); bugs are planted one after another
+    tools/plant.py --jobs N             the jobs of 'rt check' (1 unless given); bugs are planted one after another
     tools/plant.py --again              try again what has a result
     tools/plant.py --table              print the results kept as rows of a table, and plant nothing: 'at the promise'
                                         where the first error is in src/, 'in its proof' where a proof in proofs/ fails
@@ -110,13 +111,14 @@ def read_bugs():
 
 
 def crates():
-    """The crates, each after those that it rests on, and what each rests on."""
+    """The crates, each after those of the repository that it rests on, and what each rests on."""
     deps = {}
     for line in (REPO / "crates.txt").read_text().splitlines():
         line = line.split("#")[0].strip()
         if line:
             name, _, rest = line.partition(":")
-            deps[name.strip()] = rest.split()
+            deps[name.split()[0]] = rest.split()
+    deps = {name: [d for d in rest if d in deps] for name, rest in deps.items()}
     order = {}
 
     def add(name):
@@ -146,49 +148,75 @@ def digest(crate):
     return h.hexdigest()
 
 
+def sources(root):
+    """The files of the crates below root, without what rt made (out/) and without must-fail edits."""
+    for folder, names, files in os.walk(root / "crates"):
+        depth = len(Path(folder).relative_to(root).parts)
+        names[:] = [n for n in names if depth != 2 or n not in ("out", "must-fail")]
+        for file in files:
+            yield (Path(folder) / file).relative_to(root)
+
+
 def sync(scratch):
-    """Brings the scratch copy to the sources of the repository; target/ is copied the first time only."""
+    """Brings the scratch copy to the sources of the repository; what rt keeps in the out/ of its crates stays."""
     scratch.mkdir(parents=True, exist_ok=True)
-    shutil.copy2(REPO / "crates.txt", scratch / "crates.txt")
-    if not (scratch / "target").exists() and (REPO / "target").exists():
-        shutil.copytree(REPO / "target", scratch / "target")
-    wanted = set()
-    for path in (REPO / "crates").rglob("*"):
-        relative = path.relative_to(REPO)
-        if path.is_dir() or "must-fail" in relative.parts:
-            continue
-        wanted.add(relative)
-        copy = scratch / relative
+    for top in ("crates.txt", "HANDLES"):
+        if (REPO / top).exists():
+            shutil.copyfile(REPO / top, scratch / top)
+    wanted = set(sources(REPO))
+    for relative in wanted:
+        path, copy = REPO / relative, scratch / relative
         if not copy.exists() or copy.read_bytes() != path.read_bytes():
             copy.parent.mkdir(parents=True, exist_ok=True)
             shutil.copyfile(path, copy)
-    for path in list((scratch / "crates").rglob("*")):
-        if path.is_file() and path.relative_to(scratch) not in wanted:
-            path.unlink()
-    for path in sorted((scratch / "crates").rglob("*"), reverse=True):
-        if path.is_dir() and not any(path.iterdir()):
-            path.rmdir()
+    for relative in list(sources(scratch)):
+        if relative not in wanted:
+            (scratch / relative).unlink()
 
 
 def check(scratch, crate, jobs):
-    """Checks one crate of the scratch copy: status and what was said."""
-    env = dict(os.environ, RT_JOBS=str(jobs), RT_CUT="0")
+    """Checks one crate of the scratch copy: whether it is proved, the crate that came last, and what was said of that one."""
     done = subprocess.run(
-        ["nice", "-n", "5", "rt", "dev", crate], cwd=scratch, env=env, text=True, errors="replace",
-        stdout=subprocess.PIPE, stderr=subprocess.STDOUT,
+        ["nice", "-n", "5", "rt", "check", "--jobs", str(jobs)], cwd=scratch / "crates" / crate, text=True,
+        errors="replace", stdin=subprocess.DEVNULL, stdout=subprocess.PIPE, stderr=subprocess.STDOUT,
     )
-    return done.returncode, done.stdout
+    out = done.stdout
+    verdicts = re.findall(r"^logic=.*$", out, re.M)
+    proved = done.returncode == 0 and bool(verdicts) and verdicts[-1].startswith("logic=proved")
+    below = re.search(r"^rt: the library (\S+) did not build, so nothing above it was checked$", out, re.M)
+    # what comes before was said of libraries that were built, or by a quick pass over the sources
+    last = re.split(r"^logic=proved.*$", out, flags=re.M)[-1]
+    quick = re.search(r"^only=.*$", last, re.M)
+    if quick and "logic=not-proved" not in last[: quick.start()]:
+        last = last[quick.end() :]
+    return proved, below.group(1) if below else crate, out if proved else last
 
 
-def said(scratch, out):
+def said(scratch, crate, out):
     """The functions that are not proved, without those that only wait for another, and the first error: place and line."""
-    names = re.findall(r"^(?:fn|impl|struct|trait|law) (\S+): (?!proved|no proof: it calls|.*it waits for)", out, re.M)
-    first = re.search(r"^(\S+?:\d+:\d+): error: (.*)$", out, re.M)
-    if not first:
-        first = re.search(r"^(\S+?): error: (.*)$", out, re.M) or re.search(r"^note: (\S+?:\d+:\d+): (.*)$", out, re.M)
-    place, words = (first.group(1), first.group(2)) if first else ("", out.strip().splitlines()[-1] if out.strip() else "")
-    place = place.replace(str(scratch) + "/", "").replace("crates/", "", 1)
+    names = re.findall(r"^(?:fn|impl|struct|enum|trait|law) (\S+): (?!proved|.*\bit (?:calls|waits for)\b)", out, re.M)
+    error = r"(\S+?:\d+:\d+): error(?:\[[\w-]+\])?: (.*)"
+    first = re.search(rf"^(?:{error}|note: (\S+?:\d+:\d+): (.*))$", out, re.M)
+    if first:
+        place, words = first.group(1) or first.group(3), first.group(2) or first.group(4)
+    else:
+        first = re.search(r"^(\S+?): error(?:\[[\w-]+\])?: (.*)$", out, re.M)
+        lines = out.strip().splitlines() or [""]
+        place, words = (first.group(1), first.group(2)) if first else ("", lines[-1])
+    if place:
+        place = os.path.relpath(scratch / "crates" / crate / place, scratch / "crates")
     return names, place, words
+
+
+def unread(out, files):
+    """The line that says that an edited file cannot be read as it is now, so that no promise was tried, or ''."""
+    for line in out.splitlines():
+        at = re.match(r"(?:\./)?(\S+?):\d+:\d+: error: (?:(`[^`]*`): )?(.*)", line)
+        if at and at.group(1) in files:
+            words = re.sub(r"`[^`]*`", "", at.group(3))
+            if not at.group(2) or re.search(r"not in scope|has no field|is no name|operand is missing|expected the end|cannot continue", words):
+                return line
+    return ""
 
 
 def plant(scratch, bug, jobs, logs):
@@ -207,15 +235,18 @@ def plant(scratch, bug, jobs, logs):
             path.write_text(text.replace(old, new))
         log = ""
         for crate in [bug.crate] + (above(bug.crate) if bug.in_specs() else []):
-            status, out = check(scratch, crate, jobs)
+            proved, last, out = check(scratch, crate, jobs)
             log += f"== {crate}\n{out}\n"
             (logs / f"{bug.label}.log").write_text(log)
-            if status != 0 or "logic=proved" not in out:
-                names, place, words = said(scratch, out)
-                reached = "logic=not-proved" in out
-                if not reached and crate == bug.crate and not bug.in_specs():
-                    return dict(result="bad edit", why=f"does not compile: {place}: {words}")
-                return dict(result="refused", crate=crate, names=names, place=place, why=words)
+            if proved:
+                continue
+            names, place, words = said(scratch, last, out)
+            line = unread(out, [file for file, _, _ in bug.edits]) if last == bug.crate else ""
+            if line:
+                return dict(result="bad edit", why=f"cannot be read: {line}")
+            if "logic=not-proved" not in out and last == bug.crate and not bug.in_specs():
+                return dict(result="bad edit", why=f"does not compile, or no verdict: {place}: {words}")
+            return dict(result="refused", crate=last, names=names, place=place, why=words)
         return dict(result="SURVIVES")
     finally:
         for path, text in before.items():
@@ -261,8 +292,8 @@ def main():
         r = kept.get(bug.label)
         if args.again or not r or r.get("key") != key:
             if bug.crate not in warm:
-                status, out = check(scratch, bug.crate, args.jobs)
-                if status != 0:
+                proved, _, out = check(scratch, bug.crate, args.jobs)
+                if not proved:
                     sys.exit(f"{bug.crate} is not proved before a bug is planted:\n{out[-2000:]}")
                 warm.add(bug.crate)
             began = time.time()
