@@ -1,5 +1,5 @@
 -- The law on opened lines, over whole sessions.
-use Rattle.std.proofs.Common.{◌≡◌, ℕ, true, ◌⊎◌, List, [], ◌∷◌, Ok, Err, Option, sym, refl, ap, ◌∙◌, subst, inl, inr}
+use Rattle.std.proofs.Common.{◌≡◌, true, List, [], ◌∷◌, Ok, Err, sym, refl, subst, inl, inr}
 use Rattle.integers.specs.Modulus.{is_modulus}
 use Rattle.refusal.specs.declared.kinds.Refusal.{Refusal}
 use Rattle.refusal.specs.declared.kinds.Refusal.TheVariants.{Moment, Modulus, Garbled}
@@ -8,7 +8,6 @@ use Rattle.split.specs.Shares.{split}
 use Rattle.system.specs.Meant.{meant}
 use Rattle.system.specs.Laws.{sound}
 use Rattle.secrecy.proofs.Masks.{plain_sound, split_sound}
-use Rattle.states.specs.declared.State.TheVariants.{Idle}
 use Rattle.states.specs.declared.Reply.TheVariants.{Done}
 use Rattle.command.specs.declared.kinds.Choice.{Choice}
 use Rattle.command.specs.declared.kinds.Choice.TheVariants.{Plain as PlainChoice, System as SystemChoice, Split as SplitChoice}

@@ -1,9 +1,9 @@
 -- A session ends: each scheme that is chosen leaves fewer lines.
-use Rattle.std.proofs.Common.{◌≡◌, ℕ, suc, ◌-◌, ◌<◌, ◌≤◌, List, [], Some, None, Option, sym, refl, ap, ◌∙◌, subst, arith}
+use Rattle.std.proofs.Common.{ℕ, suc, ◌-◌, ◌<◌, ◌≤◌, List, [], Some, None, Option, arith}
 use Rattle.session.specs.declared.schemes.Chosen.{Chosen}
-use Rattle.session.specs.Session.{Decoded, Answer, Console, absent}
+use Rattle.session.specs.Session.{Decoded, Answer, absent}
 use Rattle.session.specs.Replies.{SessionOf}
-use Rattle.session.specs.Serving.{Served, ServedUnder, Counted}
+use Rattle.session.specs.Serving.{Served, Counted}
 use Rattle.session.proofs.Consoles.{turns_right, turns_reach}
 
 -- there are no more answers than lines where a scheme is chosen

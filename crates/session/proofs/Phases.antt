@@ -1,15 +1,13 @@
 -- Lines served one after another, window by window.
-use Rattle.std.proofs.Common.{◌≡◌, ℕ, ◌+◌, ◌<◌, ◌≤◌, true, ◌⊎◌, List, [], ◌∷◌, ◌++◌, length, get_or, take, IfOk, Some, None, Ok, Err, Option, Result, sym, refl, ap, ◌∙◌, subst, inl, inr}
+use Rattle.std.proofs.Common.{◌≡◌, ℕ, ◌<◌, ◌≤◌, List, [], ◌∷◌, ◌++◌, length, get_or, take, IfOk, Some, None, Ok, Err, Option, Result, sym, refl, ap, ◌∙◌, subst, inl, inr}
 use Rattle.std.proofs.lemmas.List.{length_push, take_more, take_all, get_or_default}
 use Rattle.plain.specs.declared.Plain.{Plain as PlainOf}
 use Rattle.refusal.specs.declared.kinds.Refusal.{Refusal}
 use Rattle.refusal.specs.declared.kinds.Refusal.TheVariants.{Modulus, Garbled}
 use Rattle.scheme.specs.Meaning.{Meaning}
 use Rattle.plain.specs.Residues.{residues}
-use Rattle.split.specs.declared.halves.Halves.{Halves}
 use Rattle.split.specs.Shares.{split}
 use Rattle.system.specs.declared.residues.System.{System as SystemOf}
-use Rattle.system.specs.declared.residues.Residues.{Residues}
 use Rattle.system.specs.Meant.{meant}
 use Rattle.states.specs.declared.State.{State}
 use Rattle.states.specs.declared.State.TheVariants.{Idle}
@@ -20,7 +18,7 @@ use Rattle.command.specs.declared.kinds.Choice.TheVariants.{Plain as PlainChoice
 use Rattle.command.specs.declared.kinds.Command.TheVariants.{Choose, Plan, Load, Begin, Advance, Line, Restart}
 use Rattle.session.specs.declared.schemes.Chosen.{Chosen}
 use Rattle.session.specs.declared.schemes.Chosen.TheVariants.{Plain, System, Split}
-use Rattle.session.specs.Session.{Decoded, Answer, Console, absent, plain, system, shared, LawfulChoice, Opens, Turn, Turns}
+use Rattle.session.specs.Session.{Decoded, Answer, Console, absent, plain, system, shared, LawfulChoice, Turn, Turns}
 use Rattle.session.specs.Serving.{Makes, Keeps, Embeds, Ready, ReadyFor, Served, ServedFrom, ServedUnder}
 
 -- one line more

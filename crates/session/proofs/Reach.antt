@@ -1,11 +1,10 @@
 -- Which refusals a window of the console can meet: its block has 256 pairs, its scheme stays, and what it holds is well formed.
-use Rattle.std.proofs.Common.{◌≡◌, ℕ, zero, suc, ◌+◌, ◌-◌, ◌*◌, ◌^◌, ◌<◌, ◌≤◌, Bool, true, false, cond, ◌&&◌, eqb, ltb, leb, ◌⊎◌, List, [], ◌∷◌, length, get_or, set, Some, None, Ok, Err, Option, sym, refl, ap, ◌∙◌, subst, inl, inr, arith, lit<, length-set, ltb-true, eq-eqb, eqb-true, le-leb, leb-true}
+use Rattle.std.proofs.Common.{◌≡◌, ℕ, suc, ◌+◌, ◌-◌, ◌*◌, ◌^◌, ◌<◌, ◌≤◌, Bool, true, false, cond, ◌&&◌, eqb, ltb, leb, List, [], ◌∷◌, length, get_or, Some, None, Ok, Err, Option, sym, refl, ap, ◌∙◌, subst, arith, lit<, length-set, ltb-true, eq-eqb, le-leb}
 use Rattle.integers.specs.declared.Complex.{Complex}
 use Rattle.refusal.specs.declared.kinds.Refusal.{Refusal}
 use Rattle.refusal.specs.declared.kinds.Refusal.TheVariants.{Size, SampleScale, TwiddleScale, Block, Narrow, Moment, Place, Strange, Malformed, Short}
 use Rattle.plan.specs.declared.method.Method.{Method}
 use Rattle.plan.specs.declared.method.Method.TheVariants.{Direct, Radix2, Radix4}
-use Rattle.plan.specs.declared.plan.Plan.{Plan}
 use Rattle.plan.specs.Methods.{sized}
 use Rattle.plan.specs.Meaning.{figures_of, least_modulus_of}
 use Rattle.plan.specs.Making.{within, refused}
@@ -23,8 +22,8 @@ use Rattle.states.specs.declared.State.{State}
 use Rattle.states.specs.declared.State.TheVariants.{Idle, Filling, Running, Finished}
 use Rattle.states.specs.declared.Call.{Call}
 use Rattle.states.specs.declared.Call.TheVariants.{Plan as PlanCall, Load as LoadCall, Begin as BeginCall, Advance as AdvanceCall, Line as LineCall, Restart as RestartCall}
-use Rattle.states.specs.declared.Reply.TheVariants.{Done, Opened}
-use Rattle.states.specs.Step.{Pairs, unless, first, malformed, first_malformed_place, plan_declined, line_malformed, declined, stages_for, progress, Step, StepBy, Declined}
+use Rattle.states.specs.declared.Reply.TheVariants.{Done}
+use Rattle.states.specs.Step.{Pairs, unless, first, malformed, first_malformed_place, plan_declined, line_malformed, declined, stages_for, progress, Step, StepBy}
 use Rattle.states.specs.History.{Numbers, Event, Reached, plan_in, samples_in}
 use Rattle.right.proofs.Steps.{reached_tied}
 use Rattle.right.proofs.Tied.{Held, end_of, held_last, Tied}

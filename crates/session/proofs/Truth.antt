@@ -1,5 +1,5 @@
 -- Opened lines are right by what was typed.
-use Rattle.std.proofs.Common.{◌≡◌, ℕ, ◌<◌, Bool, true, false, cond, ◌&&◌, eqb, ltb, leb, ◌⊎◌, List, [], ◌∷◌, length, Some, None, Ok, Err, Option, Result, sym, refl, ap, ◌∙◌, subst, inl, inr, arith}
+use Rattle.std.proofs.Common.{◌≡◌, ℕ, ◌<◌, Bool, true, false, cond, ◌&&◌, eqb, ltb, leb, List, [], ◌∷◌, length, Some, None, Ok, Err, Option, Result, sym, refl, ap, ◌∙◌, subst}
 use Rattle.integers.specs.declared.Complex.{Complex}
 use Rattle.refusal.specs.declared.kinds.Refusal.{Refusal}
 use Rattle.refusal.specs.declared.kinds.Refusal.TheVariants.{Size, SampleScale, TwiddleScale, Block, Narrow, Moment, Place, Strange, Malformed, Short, Large, Mask, Modulus, Garbled, Long}
@@ -8,14 +8,13 @@ use Rattle.lines.specs.Laws.{Within, Samples}
 use Rattle.scheme.specs.Meaning.{Meaning, Sound}
 use Rattle.stages.specs.Block.{well_formed}
 use Rattle.stages.proofs.Blocks.{both}
-use Rattle.scheme.specs.Sealing.{SealedPair, SealsPair, means_pair}
+use Rattle.scheme.specs.Sealing.{SealsPair, means_pair}
 use Rattle.states.specs.declared.State.{State}
 use Rattle.states.specs.declared.State.TheVariants.{Idle, Filling, Running, Finished}
 use Rattle.states.specs.declared.Kept.{Kept}
 use Rattle.states.specs.declared.Call.{Call}
 use Rattle.states.specs.declared.Call.TheVariants.{Plan as PlanCall, Load as LoadCall, Begin as BeginCall, Advance as AdvanceCall, Line as LineCall, Restart as RestartCall}
 use Rattle.states.specs.declared.Line.{Line as OpenedLine}
-use Rattle.states.specs.declared.Reply.{Reply}
 use Rattle.states.specs.declared.Reply.TheVariants.{Done, Opened}
 use Rattle.states.specs.Step.{Pairs, Step, Declined}
 use Rattle.states.specs.History.{Numbers, Event, plan_after, plan_in, samples_after, samples_in, Reached, RightBy}

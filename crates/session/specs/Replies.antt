@@ -1,5 +1,5 @@
 -- The console as a whole: from the bytes of its input to the bytes of its output.
-use Rattle.std.specs.Prelude.{◌≡◌, ℕ, ◌<◌, ◌≤◌, true, ◌⊎◌, List, [], ◌∷◌, ◌++◌, length, Err}
+use Rattle.std.specs.Prelude.{◌≡◌, ℕ, ◌<◌, ◌≤◌, ◌⊎◌, List, [], ◌∷◌, length, Err}
 use Rattle.refusal.specs.declared.kinds.Refusal.TheVariants.{Long}
 use Rattle.command.specs.Lines.{DecodesAll}
 use Rattle.command.specs.Text.{transcript_of}

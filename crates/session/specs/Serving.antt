@@ -1,16 +1,13 @@
 -- What the parts of the session promise one another.
-use Rattle.std.specs.Prelude.{◌≡◌, ℕ, ◌<◌, ◌≤◌, true, List, [], length, take, Some, None, Ok, Err, Option, Result}
+use Rattle.std.specs.Prelude.{◌≡◌, ℕ, ◌<◌, ◌≤◌, true, List, length, take, Some, None, Ok, Err, Option, Result}
 use Rattle.refusal.specs.declared.kinds.Refusal.{Refusal}
 use Rattle.refusal.specs.declared.kinds.Refusal.TheVariants.{Modulus, Garbled}
 use Rattle.scheme.specs.Meaning.{Meaning}
-use Rattle.split.specs.declared.halves.Halves.{Halves}
-use Rattle.system.specs.declared.residues.Residues.{Residues}
 use Rattle.states.specs.declared.State.{State}
 use Rattle.states.specs.declared.State.TheVariants.{Idle}
 use Rattle.states.specs.Step.{Pairs, Declined}
 use Rattle.command.specs.declared.kinds.Choice.{Choice}
 use Rattle.command.specs.declared.kinds.Choice.TheVariants.{Plain as PlainChoice, System as SystemChoice, Split as SplitChoice}
-use Rattle.command.specs.declared.kinds.Command.{Command}
 use Rattle.command.specs.declared.kinds.Command.TheVariants.{Choose, Plan, Load, Begin, Advance, Line, Restart}
 use Rattle.system.specs.Making.{Accepted}
 use Rattle.integers.specs.Modulus.{is_modulus}

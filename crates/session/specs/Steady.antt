@@ -1,5 +1,5 @@
 -- What a line of the console leaves as it was.
-use Rattle.std.specs.Prelude.{◌≡◌, ℕ, ◌⊎◌, Ok, Err}
+use Rattle.std.specs.Prelude.{◌≡◌, ◌⊎◌, Ok, Err}
 use Rattle.refusal.specs.declared.kinds.Refusal.{Refusal}
 use Rattle.states.specs.declared.Reply.TheVariants.{Done}
 use Rattle.command.specs.declared.kinds.Choice.{Choice}

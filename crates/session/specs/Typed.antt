@@ -1,14 +1,11 @@
 -- What is certain of a session, read off the lines typed and their answers alone, the newest first.
-use Rattle.std.specs.Prelude.{◌≡◌, ℕ, ◌<◌, cond, List, [], ◌∷◌, Some, None, Ok, Err, Option, Result, ◌==◌}
+use Rattle.std.specs.Prelude.{◌≡◌, ℕ, ◌<◌, cond, List, [], ◌∷◌, Some, None, Ok, Err, Option, ◌==◌}
 use Rattle.integers.specs.declared.Complex.{Complex}
-use Rattle.refusal.specs.declared.kinds.Refusal.{Refusal}
 use Rattle.refusal.specs.declared.kinds.Refusal.TheVariants.{Size, SampleScale, TwiddleScale, Block, Narrow, Moment, Place, Strange, Malformed, Short, Large, Mask, Modulus, Garbled, Long}
 use Rattle.lines.specs.Laws.{Samples}
 use Rattle.states.specs.declared.Line.{Line as OpenedLine}
-use Rattle.states.specs.declared.Reply.{Reply}
 use Rattle.states.specs.declared.Reply.TheVariants.{Done, Opened}
 use Rattle.states.specs.History.{Numbers, RightFor}
-use Rattle.command.specs.declared.kinds.Command.{Command}
 use Rattle.command.specs.declared.kinds.Command.TheVariants.{Choose, Plan, Load, Begin, Advance, Line, Restart}
 use Rattle.session.specs.Session.{Decoded, Answer}
 

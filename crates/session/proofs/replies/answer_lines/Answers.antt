@@ -1,4 +1,4 @@
-use Rattle.std.proofs.Common.{◌≡◌, length, Some, None, vec_items, vec_len, Option, sym, refl, ap, ◌∙◌, subst}
+use Rattle.std.proofs.Common.{length, Some, vec_items, vec_len, Option, subst}
 use Rattle.session.specs.declared.schemes.Chosen.{Chosen}
 use Rattle.session.specs.Session.{absent}
 use Rattle.session.specs.Serving.{Served}

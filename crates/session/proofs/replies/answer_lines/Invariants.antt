@@ -1,5 +1,4 @@
-use Rattle.std.proofs.Common.{ℕ, suc, ◌-◌, ◌≤◌, length, Some, None, vec_items, vec_len, Option}
-use Rattle.session.specs.declared.schemes.Chosen.{Chosen}
+use Rattle.std.proofs.Common.{◌-◌, length, vec_items, vec_len}
 use Rattle.session.specs.Session.{absent}
 use Rattle.session.specs.Serving.{Served}
 use Rattle.session.proofs.Ending.{Few, turns_left}

@@ -1,7 +1,7 @@
-use Rattle.std.proofs.Common.{◌≡◌, List, [], ◌∷◌, IfOk, Ok, Err, vec_items, string_bytes, Result, sym, refl, ap, ◌∙◌, subst, inl, inr, rules}
+use Rattle.std.proofs.Common.{List, IfOk, Ok, Err, vec_items, Result, ap, ◌∙◌, subst, inl, inr, rules}
 use Rattle.secrecy.proofs.Secrecy.{secrecy_stands}
 use Rattle.command.specs.Text.{transcript_of}
-use Rattle.session.specs.Session.{Decoded, Answer}
+use Rattle.session.specs.Session.{Decoded}
 use Rattle.session.specs.Replies.{SessionOf}
 use Rattle.session.proofs.replies.reply.Goals as goal
 

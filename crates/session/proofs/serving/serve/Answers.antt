@@ -1,4 +1,4 @@
-use Rattle.std.proofs.Common.{◌≡◌, ℕ, ◌<◌, ◌≤◌, List, [], ◌∷◌, ◌++◌, length, Some, Ok, vec_items, vec_len, sym, refl, ap, ◌∙◌, subst, rules}
+use Rattle.std.proofs.Common.{◌≡◌, ◌≤◌, List, [], ◌∷◌, ◌++◌, length, Some, Ok, vec_items, sym, ◌∙◌, subst, rules}
 use Rattle.states.specs.declared.Reply.TheVariants.{Done}
 use Rattle.scheme.specs.Meaning.{Meaning}
 use Rattle.session.specs.Session.{Answer}

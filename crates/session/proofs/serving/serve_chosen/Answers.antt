@@ -1,4 +1,4 @@
-use Rattle.std.proofs.Common.{◌≡◌, vec_items, ap, rules}
+use Rattle.std.proofs.Common.{vec_items}
 use Rattle.session.proofs.Phases.{under_plain, under_system, under_split}
 use Rattle.session.proofs.serving.serve_chosen.Goals as goal
 

@@ -1,4 +1,4 @@
-use Rattle.std.proofs.Common.{◌≡◌, Ok, Err, refl, rules}
+use Rattle.std.proofs.Common.{◌≡◌, Ok, rules}
 use Rattle.command.specs.declared.kinds.Command.TheVariants.{Choose}
 use Rattle.session.specs.Session.{Decoded}
 use Rattle.session.proofs.Phases.{declined_choice}
