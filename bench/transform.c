@@ -1,5 +1,5 @@
 /* The 256-point radix-4 transform over plain residues, in C: the same operations in the same order as the
- * library's (multiples by doubling, sums by remainder), for comparison with target/bin/bench.
+ * library's (multiples by doubling, sums by remainder), for comparison with crates/bench/out/bench.
  *   cc -O3 -o /tmp/transform bench/transform.c && /tmp/transform ROUNDS
  * It prints the checksum, the sums and opposites of one transform, and the time. */
 #include <math.h>
