@@ -3,12 +3,12 @@
 #![tactic(auto)]
 
 ghost use Rattle.std.specs.Prelude.{◌≡◌, ◌-◌, ◌*◌, ◌^◌, ◌<◌, ◌≤◌, pos, ◌*ℤ◌, unsigned_abs};
-ghost use Rattle.circle.specs.Circle.{circle, mirrored, cosine as cosineOf, sine as sineOf, in_quarter, CircleDetermined};
+ghost use Rattle.circle.specs.Circle.{circle, mirrored, cosine as cosine_of, sine as sine_of, in_quarter, CircleDetermined};
 ghost use Rattle.circle.specs.Nearest.{NearestQuotient, NearestSigned};
 ghost use Rattle.circle.specs.Near.{Near, multiple, sizes};
 ghost use Rattle.integers.specs.Complex.{quarter_turn_of};
 ghost use Rattle.circle.specs.Fine.{fine, FineDetermined, FineProducts};
-ghost use Rattle.circle.specs.Twiddle.{twiddle as twiddleOf, TwiddlesDetermined};
+ghost use Rattle.circle.specs.Twiddle.{twiddle as twiddle_of, TwiddlesDetermined};
 ghost use Rattle.circle.specs.Figures.{CircleFigures};
 ghost use Rattle.circle.specs.Spread.{spread as spread_of};
 
@@ -89,14 +89,14 @@ fn quarter(v: usize) -> Point
 
 // The cosine at v times 2^30; none past a quarter of a turn.
 pub fn cosine(v: usize) -> Option<u32>
-    ensures { result ≡ in_quarter v (cosineOf v) }
+    ensures { result ≡ in_quarter v (cosine_of v) }
 {
     if v <= 64 { Some(quarter(v).cos) } else { None }
 }
 
 // The sine at v times 2^30; none past a quarter of a turn.
 pub fn sine(v: usize) -> Option<u32>
-    ensures { result ≡ in_quarter v (sineOf v) }
+    ensures { result ≡ in_quarter v (sine_of v) }
 {
     if v <= 64 { Some(quarter(v).sin) } else { None }
 }
@@ -154,7 +154,7 @@ fn nearest_part(x: i64, scale: u32) -> i64
 
 // The twiddle of a scale at u: the fine twiddle brought to the scale, each component rounded to the nearest, halves away from zero.
 pub fn twiddle(u: usize, scale: u32) -> Complex
-    ensures value { result ≡ twiddleOf scale u }
+    ensures value { result ≡ twiddle_of scale u }
     ensures size { sizes result ≤ spread_of scale }
     ensures near { Near (2 ^ 29) (multiple (2 ^ 30) result) (multiple scale (fine u)) }
 {

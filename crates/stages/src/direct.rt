@@ -2,7 +2,7 @@
 ghost use Rattle.std.specs.Prelude.{◌≡◌, ℕ, ◌*◌, ◌/◌, ◌<◌, ◌≤◌, length, slice_index_or};
 ghost use Rattle.integers.specs.Complex.{◌⊗◌};
 ghost use Rattle.integers.specs.declared.Complex.{Complex as Value};
-ghost use Rattle.circle.specs.Twiddle.{twiddle as twiddleOf};
+ghost use Rattle.circle.specs.Twiddle.{twiddle as twiddle_of};
 ghost use Rattle.scheme.specs.Meaning.{View};
 ghost use Rattle.scheme.specs.Hidden.{StandsPair};
 ghost use Rattle.lines.specs.Lines.{direct_line_of};
@@ -25,7 +25,7 @@ fn product_at<S: Scheme>(
     block: &[(S::Number, S::Number)],
 ) -> (S::Number, S::Number)
     requires { (n < size) × ((k < size) × ((size ≤ 256) × (size ≤ length block.now))) }
-    ensures value { (v : View) (z : Value) → ((d : S.Number × S.Number) → StandsPair (S.meaning s.old) v z (slice_index_or block.now n d)) → StandsPair (S.meaning s.old) v (twiddleOf scale (n * k * (256 / size)) ⊗ z) result }
+    ensures value { (v : View) (z : Value) → ((d : S.Number × S.Number) → StandsPair (S.meaning s.old) v z (slice_index_or block.now n d)) → StandsPair (S.meaning s.old) v (twiddle_of scale (n * k * (256 / size)) ⊗ z) result }
     ensures frame { S.meaning s.new ≡ S.meaning s.old }
 {
     let factor = twiddle(n * k * (256 / size), scale);

@@ -1,6 +1,6 @@
 // The place of a sample.
 ghost use Rattle.std.specs.Prelude.{◌≡◌, ℕ, ◌-◌, ◌^◌, ◌<◌, ◌≤◌};
-ghost use Rattle.lines.specs.Places.{reversed as reversedOf};
+ghost use Rattle.lines.specs.Places.{reversed as reversed_of};
 ghost use Rattle.stages.specs.Place.{Placed};
 
 use plan::{Method, Plan};
@@ -9,7 +9,7 @@ use refusal::Refusal;
 // The digits of n to the base `radix` reversed, as many as the size, a power of the radix, has zeros.
 fn reversed(radix: usize, size: usize, n: usize) -> usize
     requires { 1 < radix }
-    ensures value { (u : ℕ) → size ≡ radix ^ u → result ≡ reversedOf radix u n }
+    ensures value { (u : ℕ) → size ≡ radix ^ u → result ≡ reversed_of radix u n }
     ensures below { result ≤ size - 1 }
 {
     if size <= 1 {

@@ -1,6 +1,6 @@
 // Arithmetic on residues, one modulus at a time.
 ghost use Rattle.std.specs.Prelude.{◌≡◌, ◌+◌, ◌*◌, ◌%◌, ◌^◌, ◌<◌, true};
-ghost use Rattle.integers.specs.Residue.{residue as residueOf};
+ghost use Rattle.integers.specs.Residue.{residue as residue_of};
 ghost use Rattle.system.specs.Admission.{Admits};
 ghost use Rattle.system.specs.Hidden.{product, residues, formed, hidden, raised};
 
@@ -85,9 +85,9 @@ impl System {
 
     // The residues of a whole number.
     pub(crate) fn remainders(&self, m: i64) -> Residues
-        ensures first { result.first ≡ residueOf m self.now.first.n }
-        ensures second { result.second ≡ residueOf m self.now.second.n }
-        ensures third { result.third ≡ residueOf m self.now.third.n }
+        ensures first { result.first ≡ residue_of m self.now.first.n }
+        ensures second { result.second ≡ residue_of m self.now.second.n }
+        ensures third { result.third ≡ residue_of m self.now.third.n }
     {
         Residues {
             first: self.first.residue(m),

@@ -1,7 +1,7 @@
 // The parts of the calls: what each does to the block, and why it is declined.
 ghost use Rattle.std.specs.Prelude.{◌≡◌, ℕ, ◌+◌, ◌<◌, ◌≤◌, true, length, slice_index_or, slice_set};
 ghost use Rattle.stages.specs.Block.{well_formed};
-ghost use Rattle.states.specs.Step.{progress as progressOf, stages_for};
+ghost use Rattle.states.specs.Step.{progress as progress_of, stages_for};
 ghost use Rattle.window.specs.Parts.{Beginning, Planning, Checking, Putting, Loading, Advancing, Reading, Opening};
 
 use plan::{Method, Plan};
@@ -49,7 +49,7 @@ fn stages_of(plan: &Plan) -> usize
 
 // The state after so many stages.
 fn progress(kept: Kept, done: usize) -> State
-    ensures { result ≡ progressOf kept done }
+    ensures { result ≡ progress_of kept done }
 {
     if done == stages_of(&kept.plan) {
         State::Finished { kept }
@@ -61,7 +61,7 @@ fn progress(kept: Kept, done: usize) -> State
 // The state after one more stage than `done`.
 pub(crate) fn advanced(kept: Kept, done: usize) -> State
     requires { done < 8 }
-    ensures { result ≡ progressOf kept (done + 1) }
+    ensures { result ≡ progress_of kept (done + 1) }
 {
     progress(kept, done + 1)
 }
