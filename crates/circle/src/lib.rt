@@ -102,11 +102,9 @@ pub fn sine(v: usize) -> Option<u32>
 }
 
 // The rules of the circle have exactly one solution, which `cosine` and `sine` answer.
-pub fn circle_is_determined() -> u8
+pub fn circle_is_determined()
     ensures { CircleDetermined }
-{
-    0
-}
+{}
 
 // x times −j: (a + jb)(−j) = b − ja.
 fn quarter_turn(x: Complex) -> Complex
@@ -173,29 +171,21 @@ pub fn spread(scale: u32) -> u64
 }
 
 // The rules of the fine twiddles have exactly one solution, which `fine_twiddle` answers.
-pub fn fine_twiddles_are_determined() -> u8
+pub fn fine_twiddles_are_determined()
     ensures { FineDetermined }
-{
-    0
-}
+{}
 
 // The rule of the twiddles has exactly one solution at every scale, which `twiddle` answers.
-pub fn twiddles_are_determined() -> u8
+pub fn twiddles_are_determined()
     ensures { TwiddlesDetermined }
-{
-    0
-}
+{}
 
 // Fine twiddles multiply as powers of one root: within 8·2^30 in each component.
-pub fn fine_twiddles_multiply() -> u8
+pub fn fine_twiddles_multiply()
     ensures { FineProducts }
-{
-    0
-}
+{}
 
 // Worked figures of the circle, its twiddles and their spread.
-pub fn figures_stand() -> u8
+pub fn figures_stand()
     ensures { CircleFigures }
-{
-    0
-}
+{}

@@ -32,9 +32,7 @@ pub fn decode_all(input: &[u8], heap: Global) -> Result<Vec<Result<Command, Refu
     Ok(decoded)
 }
 
-// Input has its lines in one way only. The answer says nothing; the contract is the theorem.
-pub fn input_lines_are_determined() -> u8
+// Input has its lines in one way only.
+pub fn input_lines_are_determined()
     ensures { OneSplit }
-{
-    0
-}
+{}

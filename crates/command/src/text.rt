@@ -3,14 +3,14 @@ ghost use Rattle.std.specs.Prelude.{◌≡◌, IfOk, Some, string_bytes};
 ghost use Rattle.command.specs.Text.{answer_text, transcript_of};
 
 use refusal::Refusal;
-use states::{Line, Reply};
+use states::Line;
 use std::alloc::{AllocError, Global};
 use std::fmt;
 
 // An answer as it is written: 'ok', 'no,11', 'g,1,-2,2,1,0'.
 #[derive(Clone, Copy)]
 pub struct Answer {
-    pub answer: Result<Reply, Refusal>,
+    pub answer: states::Answer,
 }
 
 impl fmt::Display for Answer {
@@ -18,8 +18,8 @@ impl fmt::Display for Answer {
 
     fn fmt<W: fmt::Write>(&self, f: &mut fmt::Formatter<W>) -> fmt::Result {
         match self.answer {
-            Ok(Reply::Done) => write!(f, "ok"),
-            Ok(Reply::Opened(line)) => {
+            Ok(None) => write!(f, "ok"),
+            Ok(Some(line)) => {
                 let Line {
                     index,
                     re,
@@ -38,7 +38,7 @@ impl fmt::Display for Answer {
 }
 
 // Each answer in order, each with a line feed after it.
-pub fn transcript(answers: &[Result<Reply, Refusal>], heap: Global) -> Result<String, AllocError>
+pub fn transcript(answers: &[states::Answer], heap: Global) -> Result<String, AllocError>
     ensures { IfOk result (λ t. string_bytes t ≡ transcript_of answers.now) }
 {
     let mut text = String::new(heap);

@@ -8,7 +8,7 @@ use refusal::Refusal;
 use scheme::{Scheme, pairs};
 use secrecy::{House, masks_for};
 use split::{Halves, Split};
-use states::{Line, Reply};
+use states::{Answer, Line};
 use std::alloc::Global;
 use std::fmt;
 use window::Window;
@@ -65,10 +65,10 @@ fn fine_line(k: usize) -> Complex {
 type Pair = (Halves<u64>, Halves<u64>);
 
 // A call and its answer.
-fn print_answer(rt: &impl Print, call: &str, answer: Result<Reply, Refusal>) -> anyhow::Result<()> {
+fn print_answer(rt: &impl Print, call: &str, answer: Answer) -> anyhow::Result<()> {
     match answer {
-        Ok(Reply::Done) => println!(rt; "{call}: ok")?,
-        Ok(Reply::Opened(line)) => print_line(rt, line)?,
+        Ok(None) => println!(rt; "{call}: ok")?,
+        Ok(Some(line)) => print_line(rt, line)?,
         Err(refusal) => println!(rt; "{call}: no, {refusal}")?,
     }
     Ok(())
@@ -126,7 +126,7 @@ fn load_cycle<S: Scheme>(rt: &impl Print, s: &mut S, window: &mut Window<S>) -> 
     Ok(())
 }
 
-fn print_load(rt: &impl Print, n: usize, answer: Result<Reply, Refusal>) -> anyhow::Result<()> {
+fn print_load(rt: &impl Print, n: usize, answer: Answer) -> anyhow::Result<()> {
     match answer {
         Ok(_) => println!(rt; "load {n}: ok")?,
         Err(refusal) => println!(rt; "load {n}: no, {refusal}")?,

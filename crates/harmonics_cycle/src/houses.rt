@@ -6,12 +6,12 @@ use plain::Plain;
 use refusal::Refusal;
 use scheme::Scheme;
 use split::Split;
-use states::Reply;
+use states::Answer;
 use std::io;
 use window::Window;
 
 // A call and its answer.
-fn print_answer(rt: &impl Print, call: &str, answer: Result<Reply, Refusal>) -> io::Result<()> {
+fn print_answer(rt: &impl Print, call: &str, answer: Answer) -> io::Result<()> {
     match answer {
         Ok(_) => println!(rt; "{call}: ok"),
         Err(refusal) => println!(rt; "{call}: no, {refusal}"),

@@ -4,7 +4,7 @@ use crate::example::{METHOD, SAMPLE_SCALE, SIZE, STAGES, TWIDDLE_SCALE};
 use plan::Method;
 use runs::run;
 use scheme::Scheme;
-use states::{Call, Line, Reply};
+use states::{Call, Line};
 use std::alloc::{AllocError, Global};
 
 // What the houses are asked for: a plan of this method and twiddle scale, so many stages, and these lines.
@@ -94,7 +94,7 @@ pub(crate) fn transform<S: Scheme>(
     let answers = run(s, block.as_mut_slice(), calls.as_slice(), heap)?;
     let mut lines = Vec::new(heap);
     for answer in answers.iter().copied() {
-        if let Ok(Reply::Opened(line)) = answer {
+        if let Ok(Some(line)) = answer {
             lines.push(line)?;
         }
     }

@@ -7,6 +7,7 @@ ghost use Rattle.refusal.specs.Row.{row, text, Distinct};
 mod kinds;
 
 pub use kinds::Refusal;
+use std::error::Error;
 use std::fmt;
 
 impl Refusal {
@@ -81,12 +82,13 @@ impl fmt::Display for Refusal {
     }
 }
 
+// A refusal is an error: a program passes it on with `?`.
+impl Error for Refusal {}
+
 // No two refusals are told by one number and place, and every number is from 1 to 15.
-pub fn refusals_are_distinct() -> u8
+pub fn refusals_are_distinct()
     ensures { Distinct }
-{
-    0
-}
+{}
 
 #[cfg(test)]
 mod tests {

@@ -21,8 +21,6 @@ use Rattle.states.specs.declared.State.{State}
 use Rattle.states.specs.declared.State.TheVariants.{Idle, Filling, Running, Finished}
 use Rattle.states.specs.declared.Call.TheVariants.{Line as LineCall}
 use Rattle.states.specs.declared.Line.{Line}
-use Rattle.states.specs.declared.Reply.{Reply}
-use Rattle.states.specs.declared.Reply.TheVariants.{Opened}
 use Rattle.states.specs.Step.{Pairs, StepBy, declined, line_read, stated}
 use Rattle.states.specs.History.{RightFor, RightBy, plan_in, samples_in, Event, OpenedLinesAreRight}
 use Rattle.right.proofs.Agreeing.{Agree, agree_meant, agree_direct, read_stands, some}
@@ -54,9 +52,9 @@ module _ {N : Type 0} (m : Meaning N) (ok : Sound m) where
       }
 
   -- a line opened in a tied state
-  opened_by : (o : Option Refusal) (past : List (Event N)) (st : State) (bl : Pairs N) (k : ℕ) (l : Line) (st' : State) (bl' : Pairs N) → declined m st bl (LineCall k) ≡ o → StepBy o m st bl (LineCall k) (Ok (Opened l)) st' bl' → Tied m (plan_in past) (samples_in m past) st bl → RightBy m past k l
+  opened_by : (o : Option Refusal) (past : List (Event N)) (st : State) (bl : Pairs N) (k : ℕ) (l : Line) (st' : State) (bl' : Pairs N) → declined m st bl (LineCall k) ≡ o → StepBy o m st bl (LineCall k) (Ok (Some l)) st' bl' → Tied m (plan_in past) (samples_in m past) st bl → RightBy m past k l
   opened_by (Some x) past st bl k l st' bl' e h t =
-      let e : ◌≡◌ {A = Result Reply Refusal} (Ok (Opened l)) (Err x) = h.answer in let z : ◌≡◌ {A = ℕ} 0 1 = cc in absurd (omega arith)
+      let e : ◌≡◌ {A = Result (Option Line) Refusal} (Ok (Some l)) (Err x) = h.answer in let z : ◌≡◌ {A = ℕ} 0 1 = cc in absurd (omega arith)
   opened_by None past Idle bl k l st' bl' e h t = absurd h
   opened_by None past (Filling kept count) bl k l st' bl' e h t = absurd h
   opened_by None past (Running kept u) bl k l st' bl' e h t = absurd h
@@ -65,7 +63,7 @@ module _ {N : Type 0} (m : Meaning N) (ok : Sound m) where
       let (low, later) = unless_none (ltb k kept.plan.size) Place _ e in
       let below : k < kept.plan.size = ltb-true k kept.plan.size low in
       let z : Complex = line_read m kept.plan kept.plan.method bl k in
-      let a : ◌≡◌ {A = Result Reply Refusal} (Ok (Opened l)) (Ok (Opened (stated m kept.plan k z))) = h.answer in
+      let a : ◌≡◌ {A = Result (Option Line) Refusal} (Ok (Some l)) (Ok (Some (stated m kept.plan k z))) = h.answer in
       let same : l ≡ stated m kept.plan k z = cc in
       let agree : Agree m.modulus z (line_of p.method p.size p.twiddle_scale r.samples k) =
       line_agrees p.method p r.samples bl k f.long below (held_last m p.method p.size p.twiddle_scale r.samples bl p.size_lawful r.held) in

@@ -1,5 +1,5 @@
 -- The laws on runs are not empty.
-use Rattle.std.proofs.Common.{◌≡◌, ℕ, List, [], ◌∷◌, ℤ, pos, negsuc, nat_abs, Ok, Err, sym, refl, ap, ◌∙◌, subst, arith, lit≤}
+use Rattle.std.proofs.Common.{◌≡◌, ℕ, List, [], ◌∷◌, ℤ, pos, negsuc, nat_abs, Ok, Err, sym, refl, ap, ◌∙◌, subst, arith, lit≤, None, Some}
 use Rattle.integers.specs.declared.Complex.{Complex}
 use Rattle.integers.specs.Complex.{complex}
 use Rattle.integers.specs.Residue.{residue, centred}
@@ -19,7 +19,6 @@ use Rattle.plain.specs.Residues.{residues}
 use Rattle.stages.specs.Block.{is_well_formed_at, read_at}
 use Rattle.states.specs.declared.Kept.{Kept}
 use Rattle.states.specs.declared.State.TheVariants.{Idle, Filling, Finished}
-use Rattle.states.specs.declared.Reply.TheVariants.{Done, Opened}
 use Rattle.states.specs.Step.{first_malformed_place}
 use Rattle.secrecy.specs.Secrecy.{After}
 use Rattle.secrecy.proofs.Masks.{plain_sound}
@@ -54,10 +53,10 @@ kept = record { plan = plan; modulus = 81 }
 abbrev after : List (After ℕ)
 after =
     record { answer = Err Moment; block = one_start }
-    ∷ record { answer = Ok Done; block = one_start }
-    ∷ record { answer = Ok Done; block = one_end }
-    ∷ record { answer = Ok Done; block = one_end }
-    ∷ record { answer = Ok (Opened (record { index = 0; re = pos 1; im = negsuc 0; scale = 1; distance = 1 })); block = one_end }
+    ∷ record { answer = Ok None; block = one_start }
+    ∷ record { answer = Ok None; block = one_end }
+    ∷ record { answer = Ok None; block = one_end }
+    ∷ record { answer = Ok (Some (record { index = 0; re = pos 1; im = negsuc 0; scale = 1; distance = 1 })); block = one_end }
     ∷ []
 
 run : RunTo (residues 81) Idle one_start one_calls after (Finished kept) one_end

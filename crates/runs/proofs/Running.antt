@@ -7,8 +7,6 @@ use Rattle.states.specs.declared.State.TheVariants.{Idle, Filling, Running, Fini
 use Rattle.states.specs.declared.Call.{Call}
 use Rattle.states.specs.declared.Call.TheVariants.{Plan as PlanCall, Load, Begin, Advance, Line as LineCall, Restart}
 use Rattle.states.specs.declared.Line.{Line}
-use Rattle.states.specs.declared.Reply.{Reply}
-use Rattle.states.specs.declared.Reply.TheVariants.{Done, Opened}
 use Rattle.states.specs.Step.{Pairs, Step, StepBy, declined}
 use Rattle.states.specs.History.{Event, Reached}
 use Rattle.right.proofs.Right.{opened_right}
@@ -16,11 +14,11 @@ use Rattle.secrecy.specs.Secrecy.{After, Answers, answers_of, Run}
 use Rattle.runs.specs.Runs.{RightAnswer, AllRight, last_block, RunOf}
 
 -- a done call has opened no line
-done_opens_none : {l : Line} → ◌≡◌ {A = Result Reply Refusal} (Ok (Opened l)) (Ok Done) → ⊥
+done_opens_none : {l : Line} → ◌≡◌ {A = Result (Option Line) Refusal} (Ok (Some l)) (Ok None) → ⊥
 done_opens_none e = let z : ◌≡◌ {A = ℕ} 0 1 = cc in omega arith
 
 -- nor has a declined one
-declined_opens_none : {l : Line} {x : Refusal} → ◌≡◌ {A = Result Reply Refusal} (Ok (Opened l)) (Err x) → ⊥
+declined_opens_none : {l : Line} {x : Refusal} → ◌≡◌ {A = Result (Option Line) Refusal} (Ok (Some l)) (Err x) → ⊥
 declined_opens_none e = let z : ◌≡◌ {A = ℕ} 0 1 = cc in omega arith
 
 module _ {N : Type 0} (m : Meaning N) where
@@ -32,7 +30,7 @@ module _ {N : Type 0} (m : Meaning N) where
   RunTo st bl (c ∷ cs) (t ∷ ts) st' bl' = (st₁ : State) × Step m st bl c t.answer st₁ t.block × RunTo st₁ t.block cs ts st' bl'
 
   -- one call more
-  run_more : (st : State) (bl : Pairs N) (cs : List (Call N)) (ts : List (After N)) (st₁ : State) (bl₁ : Pairs N) (c : Call N) (a : Result Reply Refusal) (st' : State) (bl' : Pairs N) → RunTo st bl cs ts st₁ bl₁ → Step m st₁ bl₁ c a st' bl' → RunTo st bl (cs ++ c ∷ []) (ts ++ record { answer = a; block = bl' } ∷ []) st' bl'
+  run_more : (st : State) (bl : Pairs N) (cs : List (Call N)) (ts : List (After N)) (st₁ : State) (bl₁ : Pairs N) (c : Call N) (a : Result (Option Line) Refusal) (st' : State) (bl' : Pairs N) → RunTo st bl cs ts st₁ bl₁ → Step m st₁ bl₁ c a st' bl' → RunTo st bl (cs ++ c ∷ []) (ts ++ record { answer = a; block = bl' } ∷ []) st' bl'
   run_more st bl [] [] st₁ bl₁ c a st' bl' (es, eb) step = (st', simp (es, eb) step, (refl, refl))
   run_more st bl [] (t ∷ ts) st₁ bl₁ c a st' bl' h step = absurd h
   run_more st bl (d ∷ cs) [] st₁ bl₁ c a st' bl' h step = absurd h
@@ -65,7 +63,7 @@ pub sofar_none : {N : Type 0} (m : Meaning N) (start : Pairs N) → SoFar m star
 sofar_none m start = record { after = []; runs = (refl, refl); answers = refl }
 
 -- one call more
-pub sofar_more : {N : Type 0} (m : Meaning N) (start : Pairs N) (cs : List (Call N)) (rs : Answers) (st : State) (bl : Pairs N) (c : Call N) (a : Result Reply Refusal) (st' : State) (bl' : Pairs N) → SoFar m start cs rs st bl → Step m st bl c a st' bl' → SoFar m start (cs ++ c ∷ []) (rs ++ a ∷ []) st' bl'
+pub sofar_more : {N : Type 0} (m : Meaning N) (start : Pairs N) (cs : List (Call N)) (rs : Answers) (st : State) (bl : Pairs N) (c : Call N) (a : Result (Option Line) Refusal) (st' : State) (bl' : Pairs N) → SoFar m start cs rs st bl → Step m st bl c a st' bl' → SoFar m start (cs ++ c ∷ []) (rs ++ a ∷ []) st' bl'
 sofar_more m start cs rs st bl c a st' bl' h step =
     record {
       after = h.after ++ record { answer = a; block = bl' } ∷ [];
@@ -75,7 +73,7 @@ sofar_more m start cs rs st bl c a st' bl' h step =
 
 module _ {N : Type 0} (m : Meaning N) (ok : Sound m) where
   -- a line is opened by a line call alone
-  opened_by : (o : Option Refusal) (st : State) (bl : Pairs N) (c : Call N) (l : Line) (st' : State) (bl' : Pairs N) → StepBy o m st bl c (Ok (Opened l)) st' bl' → (past : List (Event N)) → ((k : ℕ) → c ≡ LineCall k → RightAnswer m past (Ok (Opened l)) (LineCall k)) → RightAnswer m past (Ok (Opened l)) c
+  opened_by : (o : Option Refusal) (st : State) (bl : Pairs N) (c : Call N) (l : Line) (st' : State) (bl' : Pairs N) → StepBy o m st bl c (Ok (Some l)) st' bl' → (past : List (Event N)) → ((k : ℕ) → c ≡ LineCall k → RightAnswer m past (Ok (Some l)) (LineCall k)) → RightAnswer m past (Ok (Some l)) c
   opened_by (Some x) st bl c l st' bl' h past line = absurd (declined_opens_none h.answer)
   opened_by None st bl (PlanCall k size q1 q2) l st' bl' h past line = absurd (done_opens_none h.becomes.answer)
   opened_by None Idle bl (Load n x) l st' bl' h past line = absurd h
@@ -97,12 +95,12 @@ module _ {N : Type 0} (m : Meaning N) (ok : Sound m) where
   opened_by None (Finished kept) bl Restart l st' bl' h past line = absurd (done_opens_none h.answer)
 
   -- an answer is right after the calls that led to its state
-  pub right_answer : (start : Pairs N) (past : List (Event N)) (st : State) (bl : Pairs N) → Reached m start past st bl → (c : Call N) (a : Result Reply Refusal) (st' : State) (bl' : Pairs N) → Step m st bl c a st' bl' → RightAnswer m past a c
+  pub right_answer : (start : Pairs N) (past : List (Event N)) (st : State) (bl : Pairs N) → Reached m start past st bl → (c : Call N) (a : Result (Option Line) Refusal) (st' : State) (bl' : Pairs N) → Step m st bl c a st' bl' → RightAnswer m past a c
   right_answer start past st bl r c (Err x) st' bl' step = tt
-  right_answer start past st bl r c (Ok Done) st' bl' step = tt
-  right_answer start past st bl r c (Ok (Opened l)) st' bl' step =
+  right_answer start past st bl r c (Ok None) st' bl' step = tt
+  right_answer start past st bl r c (Ok (Some l)) st' bl' step =
       opened_by (declined m st bl c) st bl c l st' bl' step past
-      (λ k e. opened_right N m ok start past st bl r k l st' bl' (subst (λ (d : Call N). Step m st bl d (Ok (Opened l)) st' bl') e step))
+      (λ k e. opened_right N m ok start past st bl r k l st' bl' (subst (λ (d : Call N). Step m st bl d (Ok (Some l)) st' bl') e step))
 
   -- every answer of a run is right
   all_right : (start : Pairs N) (past : List (Event N)) (st : State) (bl : Pairs N) → Reached m start past st bl → (cs : List (Call N)) (ts : List (After N)) → Run m st bl cs ts → AllRight m past cs (answers_of ts)

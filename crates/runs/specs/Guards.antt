@@ -1,5 +1,5 @@
 -- The laws on runs are not empty: the samples that were sealed under the sample scale lie within it, and there are runs that open lines.
-use Rattle.std.specs.Prelude.{◌≡◌, ℕ, ◌<◌, List, [], ◌∷◌, pos, negsuc, Ok, Err}
+use Rattle.std.specs.Prelude.{◌≡◌, ℕ, ◌<◌, List, [], ◌∷◌, pos, negsuc, Ok, Err, None, Some}
 use Rattle.integers.specs.declared.Complex.{Complex}
 use Rattle.integers.specs.Complex.{complex}
 use Rattle.refusal.specs.declared.kinds.Refusal.TheVariants.{Moment}
@@ -13,7 +13,6 @@ use Rattle.states.specs.declared.State.TheVariants.{Idle}
 use Rattle.states.specs.declared.Call.{Call}
 use Rattle.states.specs.declared.Call.TheVariants.{Plan as PlanCall, Load, Begin, Line as LineCall}
 use Rattle.states.specs.declared.Line.{Line}
-use Rattle.states.specs.declared.Reply.TheVariants.{Done, Opened}
 use Rattle.states.specs.Step.{Pairs, Step}
 use Rattle.states.specs.History.{Event, Numbers, Reached, RightFor}
 use Rattle.secrecy.specs.Secrecy.{Answers}
@@ -34,7 +33,7 @@ pub record SealedSample {N : Type 0} (m : Meaning N) (limit : ℕ) (z : Complex)
 -- The law on opened lines leaves nothing to assume of sealed samples: where all answers from a line call on are right by the history, and each of the samples in force was
 -- sealed under the sample scale of the plan in force, the line is right for that plan and those samples.
 abbrev pub SealedLinesRight : Type 0 → Type 0
-SealedLinesRight N = (m : Meaning N) → Sound m → (past : List (Event N)) (k : ℕ) (l : Line) (cs : List (Call N)) (rs : Answers) (all : AllRight m past (LineCall k ∷ cs) (Ok (Opened l) ∷ rs)) → ((n : ℕ) → n < all.0.plan.size → SealedSample m all.0.plan.sample (all.0.samples n)) → RightFor all.0.plan all.0.samples k l
+SealedLinesRight N = (m : Meaning N) → Sound m → (past : List (Event N)) (k : ℕ) (l : Line) (cs : List (Call N)) (rs : Answers) (all : AllRight m past (LineCall k ∷ cs) (Ok (Some l) ∷ rs)) → ((n : ℕ) → n < all.0.plan.size → SealedSample m all.0.plan.sample (all.0.samples n)) → RightFor all.0.plan all.0.samples k l
 
 -- one place that holds a malformed pair
 abbrev pub one_start : Pairs ℕ
@@ -46,7 +45,7 @@ one_calls = LineCall 0 ∷ PlanCall Direct 1 1 1 ∷ Load 0 (1, 80) ∷ Begin �
 
 -- the first call is declined, the others are accepted, and the line is 1 − j at scale 1 with distance 1
 abbrev pub one_answers : Answers
-one_answers = Err Moment ∷ Ok Done ∷ Ok Done ∷ Ok Done ∷ Ok (Opened (record { index = 0; re = pos 1; im = negsuc 0; scale = 1; distance = 1 })) ∷ []
+one_answers = Err Moment ∷ Ok None ∷ Ok None ∷ Ok None ∷ Ok (Some (record { index = 0; re = pos 1; im = negsuc 0; scale = 1; distance = 1 })) ∷ []
 
 -- the block then holds the sample
 abbrev pub one_end : Pairs ℕ

@@ -1,27 +1,26 @@
 -- Runs of a list of calls on a new window, and what is right about their answers.
-use Rattle.std.specs.Prelude.{◌≡◌, List, [], ◌∷◌, ◌++◌, Ok, Err, Result}
+use Rattle.std.specs.Prelude.{◌≡◌, List, [], ◌∷◌, ◌++◌, Ok, Err, Result, None, Some, Option}
 use Rattle.refusal.specs.declared.kinds.Refusal.{Refusal}
 use Rattle.scheme.specs.Meaning.{Meaning}
 use Rattle.states.specs.declared.State.{State}
 use Rattle.states.specs.declared.State.TheVariants.{Idle}
 use Rattle.states.specs.declared.Call.{Call}
 use Rattle.states.specs.declared.Call.TheVariants.{Plan as PlanCall, Load, Begin, Advance, Line as LineCall, Restart}
-use Rattle.states.specs.declared.Reply.{Reply}
-use Rattle.states.specs.declared.Reply.TheVariants.{Done, Opened}
+use Rattle.states.specs.declared.Line.{Line}
 use Rattle.states.specs.Step.{Pairs, Step}
 use Rattle.states.specs.History.{Event, RightBy}
 use Rattle.secrecy.specs.Secrecy.{After, Answers, answers_of, Run}
 
 -- an answer is right after the calls of the past: a line is opened by a line call alone, and is right by the history
-abbrev pub RightAnswer : {N : Type 0} → Meaning N → List (Event N) → Result Reply Refusal → Call N → Type 0
+abbrev pub RightAnswer : {N : Type 0} → Meaning N → List (Event N) → Result (Option Line) Refusal → Call N → Type 0
 RightAnswer m past (Err x) c = Unit {0}
-RightAnswer m past (Ok Done) c = Unit {0}
-RightAnswer m past (Ok (Opened l)) (PlanCall k size q1 q2) = ⊥
-RightAnswer m past (Ok (Opened l)) (Load n x) = ⊥
-RightAnswer m past (Ok (Opened l)) Begin = ⊥
-RightAnswer m past (Ok (Opened l)) Advance = ⊥
-RightAnswer m past (Ok (Opened l)) (LineCall k) = RightBy m past k l
-RightAnswer m past (Ok (Opened l)) Restart = ⊥
+RightAnswer m past (Ok None) c = Unit {0}
+RightAnswer m past (Ok (Some l)) (PlanCall k size q1 q2) = ⊥
+RightAnswer m past (Ok (Some l)) (Load n x) = ⊥
+RightAnswer m past (Ok (Some l)) Begin = ⊥
+RightAnswer m past (Ok (Some l)) Advance = ⊥
+RightAnswer m past (Ok (Some l)) (LineCall k) = RightBy m past k l
+RightAnswer m past (Ok (Some l)) Restart = ⊥
 
 -- each call has one answer, right by the history of the calls before it
 abbrev pub AllRight : {N : Type 0} → Meaning N → List (Event N) → List (Call N) → Answers → Type 0
@@ -37,7 +36,7 @@ last_block start (t ∷ ts) = last_block t.block ts
 
 -- one call more: some answer of it, noted after the others
 pub record Noted {N : Type 0} (m : Meaning N) (st : State) (bl : Pairs N) (rs : Answers) (c : Call N) (st' : State) (bl' : Pairs N) (rs' : Answers) : Type 0 where
-  pub answer : Result Reply Refusal
+  pub answer : Result (Option Line) Refusal
   pub step : Step m st bl c answer st' bl'
   pub noted : rs' ≡ rs ++ answer ∷ []
 

@@ -8,7 +8,7 @@ ghost use Rattle.secrecy.specs.Secrecy.{SecrecyStands};
 
 use refusal::Refusal;
 use scheme::Scheme;
-use states::{Call, Reply};
+use states::{Answer, Call};
 use std::alloc::{AllocError, Global};
 use window::Window;
 
@@ -17,7 +17,7 @@ fn note<S: Scheme>(
     window: &mut Window<'_, S>,
     s: &mut S,
     call: Call<S::Number>,
-    answers: &mut Vec<Result<Reply, Refusal>>,
+    answers: &mut Vec<Answer>,
 ) -> Result<(), AllocError>
     ensures noted { OnOk result (Noted (S.meaning s.old) window.old.state window.old.block.now answers.old.items call window.new.state window.new.block.now answers.new.items) }
     ensures frame { S.meaning s.new ≡ S.meaning s.old }
@@ -34,7 +34,7 @@ pub fn run<S: Scheme>(
     block: &mut [(S::Number, S::Number)],
     calls: &[Call<S::Number>],
     heap: Global,
-) -> Result<Vec<Result<Reply, Refusal>>, AllocError>
+) -> Result<Vec<Answer>, AllocError>
     ensures run { IfOk result (λ v. RunOf (S.meaning s.old) block.old calls.now v.items block.new) }
     ensures houses { SecrecyStands }
     ensures frame { S.meaning s.new ≡ S.meaning s.old }
@@ -47,39 +47,28 @@ pub fn run<S: Scheme>(
     Ok(answers)
 }
 
-// A pair that was sealed under a limit means the sample that was sealed, which lies within the limit. The answer says nothing; the
-// contract is the theorem.
-pub fn sealed_samples_are_within<N>() -> u8
+// A pair that was sealed under a limit means the sample that was sealed, which lies within the limit.
+pub fn sealed_samples_are_within<N>()
     ensures { SealedSamplesWithin N }
-{
-    0
-}
+{}
 
 // Where the answers of a run are right by the history, and each of the samples in force was sealed under the plan's sample scale, an
 // opened line is right for the plan and those samples: nothing is left to assume.
-pub fn sealed_lines_are_right<N>() -> u8
+pub fn sealed_lines_are_right<N>()
     ensures { SealedLinesRight N }
-{
-    0
-}
+{}
 
 // There is a run that opens a line.
-pub fn one_run_opens_a_line() -> u8
+pub fn one_run_opens_a_line()
     ensures { OneRun }
-{
-    0
-}
+{}
 
 // Not every line is right: that run's line with another real part is not.
-pub fn a_wrong_line_is_not_right() -> u8
+pub fn a_wrong_line_is_not_right()
     ensures { OneWrong }
-{
-    0
-}
+{}
 
 // There are histories for the law on opened lines to speak of: the empty one is reached, and every call leads on.
-pub fn histories_are_reached<N>() -> u8
+pub fn histories_are_reached<N>()
     ensures { Reaches N }
-{
-    0
-}
+{}

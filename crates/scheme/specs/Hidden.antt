@@ -1,5 +1,5 @@
 -- What hidden numbers and hidden pairs stand for, in each view.
-use Rattle.std.specs.Prelude.{◌≡◌, true, ℤ, pos}
+use Rattle.std.specs.Prelude.{◌≡◌, Bool, true, ◌&&◌, ℤ, pos}
 use Rattle.integers.specs.declared.Complex.{Complex}
 use Rattle.integers.specs.Complex.{complex}
 use Rattle.integers.specs.Residue.{residue}
@@ -13,6 +13,10 @@ pub record Stands {Number : Type 0} (s : Meaning Number) (v : View) (z : ℤ) (x
 -- what is read in x in the view v, as a whole number
 abbrev pub read : {Number : Type 0} → Meaning Number → View → Number → ℤ
 read s v x = pos (s.reads v x)
+
+-- both components of a hidden pair are well formed, as a test
+abbrev pub well_formed : {Number : Type 0} → Meaning Number → Number × Number → Bool
+well_formed m p = m.wf p.0 && m.wf p.1
 
 -- both components of a hidden pair are well formed
 pub record WellFormed {Number : Type 0} (s : Meaning Number) (p : Number × Number) : Type 0 where

@@ -2,13 +2,23 @@
 ghost use Rattle.std.specs.Prelude.{◌≡◌};
 ghost use Rattle.integers.specs.Complex.{◌⊕◌, ◌⊖◌, ◌⊗◌, ◌⊙◌, quarter_turn_of};
 ghost use Rattle.scheme.specs.Meaning.{View};
-ghost use Rattle.scheme.specs.Hidden.{StandsPair, WellFormed, read_pair};
+ghost use Rattle.scheme.specs.Hidden.{StandsPair, WellFormed, read_pair, well_formed};
 ghost use Rattle.scheme.specs.Sealing.{SealsPair, means_pair};
 
 use crate::calls::Scheme;
 use crate::{hidden, sealing};
 use integers::Complex;
 use refusal::Refusal;
+
+// Whether both components are well formed: both are tested.
+pub fn test<S: Scheme>(s: &mut S, a: (S::Number, S::Number)) -> bool
+    ensures value { result ≡ well_formed (S.meaning s.old) a }
+    ensures frame { S.meaning s.new ≡ S.meaning s.old }
+{
+    let re = s.test(a.0);
+    let im = s.test(a.1);
+    re && im
+}
 
 // The sum: one sum for each component.
 pub fn sum<S: Scheme>(

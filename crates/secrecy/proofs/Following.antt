@@ -11,8 +11,7 @@ use Rattle.states.specs.declared.State.{State}
 use Rattle.states.specs.declared.State.TheVariants.{Idle, Filling, Running, Finished}
 use Rattle.states.specs.declared.Call.{Call}
 use Rattle.states.specs.declared.Call.TheVariants.{Plan as PlanCall, Load, Begin, Advance, Line as LineCall, Restart}
-use Rattle.states.specs.declared.Reply.{Reply}
-use Rattle.states.specs.declared.Reply.TheVariants.{Done, Opened}
+use Rattle.states.specs.declared.Line.{Line}
 use Rattle.states.specs.Step.{Pairs, Step, StepBy, Accepted, Advanced, declined, malformed, first_malformed_place, stages_for, stated, line_read}
 use Rattle.states.specs.History.{Numbers, plan_after}
 use Rattle.secrecy.specs.Secrecy.{After, answers_of, Run, SecondSamples, hidden_pairs, bringing, replaced}
@@ -25,36 +24,36 @@ use Rattle.secrecy.proofs.Runs.{next}
 
 -- the call is accepted over the block, and comes to the state
 record Accepts (n : ℕ) (st : State) (ys : Pairs (Halves ℕ)) (c : Call (Halves ℕ)) (st' : State) : Type 0 where
-  answer : Result Reply Refusal
+  answer : Result (Option Line) Refusal
   block : Pairs (Halves ℕ)
   accepted : Accepted (shares n) st ys c answer st' block
 
 -- the call is possible over the block, and comes to the state
 pub record Follows (n : ℕ) (st : State) (ys : Pairs (Halves ℕ)) (c : Call (Halves ℕ)) (st' : State) : Type 0 where
-  pub answer : Result Reply Refusal
+  pub answer : Result (Option Line) Refusal
   pub block : Pairs (Halves ℕ)
   pub step : Step (shares n) st ys c answer st' block
 
-module _ (n : ℕ) (modulus : is_modulus n ≡ true) (h : Bool) (p : Option Numbers) (xs ys : Pairs (Halves ℕ)) (alike : Alike n h xs ys) (a : Result Reply Refusal) (st' : State) (xs' : Pairs (Halves ℕ)) where
+module _ (n : ℕ) (modulus : is_modulus n ≡ true) (h : Bool) (p : Option Numbers) (xs ys : Pairs (Halves ℕ)) (alike : Alike n h xs ys) (a : Result (Option Line) Refusal) (st' : State) (xs' : Pairs (Halves ℕ)) where
   advances : (kept : Kept) (t : ℕ) → t < stages_for kept.plan → first_malformed_place (shares n) xs kept.plan.size ≡ None → Advanced (shares n) kept t xs a st' xs' → Accepts n (Running kept t) ys Advance st'
   advances kept t due clean s =
       let clean' : first_malformed_place (shares n) ys kept.plan.size ≡ None = sym (alike_malformed n h xs ys alike kept.plan.size) ∙ clean in
       record {
-        answer = Ok Done;
+        answer = Ok None;
         block = after n (positive n modulus) kept.plan t due ys clean';
         accepted = record { stage = stage_made n (positive n modulus) kept.plan t due ys clean'; becomes = record { answer = refl; after = s.becomes.after; holds = refl } };
       }
 
   accepts : (c : Call (Halves ℕ)) (y : Pair) (st : State) → Tied n p st → declined (shares n) st xs c ≡ None → Accepted (shares n) st xs c a st' xs' → Accepts n st ys (bringing y c) st'
   accepts (PlanCall k size q1 q2) y st t d s =
-      record { answer = Ok Done; block = ys; accepted = record { plan = s.plan; has = s.has; becomes = record { answer = refl; after = s.becomes.after; holds = refl } } }
+      record { answer = Ok None; block = ys; accepted = record { plan = s.plan; has = s.has; becomes = record { answer = refl; after = s.becomes.after; holds = refl } } }
   accepts (Load i x) y Idle t d s = absurd s
   accepts (Load i x) y (Filling kept count) t d s =
-      record { answer = Ok Done; block = set ys (place_of kept.plan.method kept.plan.size i) y; accepted = record { answer = refl; after = s.after; holds = refl } }
+      record { answer = Ok None; block = set ys (place_of kept.plan.method kept.plan.size i) y; accepted = record { answer = refl; after = s.after; holds = refl } }
   accepts (Load i x) y (Running kept j) t d s = absurd s
   accepts (Load i x) y (Finished kept) t d s = absurd s
   accepts Begin y Idle t d s = absurd s
-  accepts Begin y (Filling kept count) t d s = record { answer = Ok Done; block = ys; accepted = record { answer = refl; after = s.after; holds = refl } }
+  accepts Begin y (Filling kept count) t d s = record { answer = Ok None; block = ys; accepted = record { answer = refl; after = s.after; holds = refl } }
   accepts Begin y (Running kept j) t d s = absurd s
   accepts Begin y (Finished kept) t d s = absurd s
   accepts Advance y Idle t d s = absurd s
@@ -67,11 +66,11 @@ module _ (n : ℕ) (modulus : is_modulus n ≡ true) (h : Bool) (p : Option Numb
   accepts (LineCall k) y (Filling kept count) t d s = absurd s
   accepts (LineCall k) y (Running kept j) t d s = absurd s
   accepts (LineCall k) y (Finished kept) t d s =
-      record { answer = Ok (Opened (stated (shares n) kept.plan k (line_read (shares n) kept.plan kept.plan.method ys k))); block = ys; accepted = record { answer = refl; after = s.after; holds = refl } }
+      record { answer = Ok (Some (stated (shares n) kept.plan k (line_read (shares n) kept.plan kept.plan.method ys k))); block = ys; accepted = record { answer = refl; after = s.after; holds = refl } }
   accepts Restart y Idle t d s = absurd s
-  accepts Restart y (Filling kept count) t d s = record { answer = Ok Done; block = ys; accepted = record { answer = refl; after = s.after; holds = refl } }
-  accepts Restart y (Running kept j) t d s = record { answer = Ok Done; block = ys; accepted = record { answer = refl; after = s.after; holds = refl } }
-  accepts Restart y (Finished kept) t d s = record { answer = Ok Done; block = ys; accepted = record { answer = refl; after = s.after; holds = refl } }
+  accepts Restart y (Filling kept count) t d s = record { answer = Ok None; block = ys; accepted = record { answer = refl; after = s.after; holds = refl } }
+  accepts Restart y (Running kept j) t d s = record { answer = Ok None; block = ys; accepted = record { answer = refl; after = s.after; holds = refl } }
+  accepts Restart y (Finished kept) t d s = record { answer = Ok None; block = ys; accepted = record { answer = refl; after = s.after; holds = refl } }
 
   pub follows : (c : Call (Halves ℕ)) (y : Pair) (st : State) → Tied n p st → AlikeLoad n h c y → Step (shares n) st xs c a st' xs' → Follows n st ys (bringing y c) st'
   follows c y st t e s = go (declined (shares n) st xs c) refl s

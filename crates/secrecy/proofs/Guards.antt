@@ -1,5 +1,5 @@
 -- The law on houses is not empty.
-use Rattle.std.proofs.Common.{ℕ, List, [], ◌∷◌, pos, None, Ok, refl, lit≤}
+use Rattle.std.proofs.Common.{ℕ, List, [], ◌∷◌, pos, None, Ok, refl, lit≤, Some}
 use Rattle.integers.specs.Complex.{complex}
 use Rattle.integers.specs.Residue.{residue, centred}
 use Rattle.circle.specs.Circle.{circle, point}
@@ -13,7 +13,6 @@ use Rattle.split.specs.declared.halves.Halves.{Halves}
 use Rattle.stages.specs.Block.{is_well_formed_at as sound_at, read_at}
 use Rattle.states.specs.declared.Kept.{Kept}
 use Rattle.states.specs.declared.State.TheVariants.{Idle, Filling, Finished}
-use Rattle.states.specs.declared.Reply.TheVariants.{Done, Opened}
 use Rattle.states.specs.Step.{Pairs, first_malformed_place}
 use Rattle.secrecy.specs.Secrecy.{After, Run, hidden_pair}
 use Rattle.secrecy.specs.Guards.{one_start, one_calls, OneLine, SecrecySpeaks}
@@ -32,10 +31,10 @@ loaded = hidden_pair 81 (complex (pos 1) (pos 0)) (70, 3) ∷ []
 
 abbrev after : List (After (Halves ℕ))
 after =
-    record { answer = Ok Done; block = one_start }
-    ∷ record { answer = Ok Done; block = loaded }
-    ∷ record { answer = Ok Done; block = loaded }
-    ∷ record { answer = Ok (Opened (record { index = 0; re = pos 1; im = pos 0; scale = 1; distance = 1 })); block = loaded }
+    record { answer = Ok None; block = one_start }
+    ∷ record { answer = Ok None; block = loaded }
+    ∷ record { answer = Ok None; block = loaded }
+    ∷ record { answer = Ok (Some (record { index = 0; re = pos 1; im = pos 0; scale = 1; distance = 1 })); block = loaded }
     ∷ []
 
 run : Run (shares 81) Idle one_start one_calls after

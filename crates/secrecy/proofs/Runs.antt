@@ -13,7 +13,7 @@ use Rattle.states.specs.declared.State.{State}
 use Rattle.states.specs.declared.State.TheVariants.{Idle, Filling, Running, Finished}
 use Rattle.states.specs.declared.Call.{Call}
 use Rattle.states.specs.declared.Call.TheVariants.{Plan as PlanCall, Load, Begin, Advance, Line as LineCall, Restart}
-use Rattle.states.specs.declared.Reply.{Reply}
+use Rattle.states.specs.declared.Line.{Line}
 use Rattle.states.specs.Step.{Pairs, Step, StepBy, Declined, unless}
 use Rattle.states.specs.History.{Numbers, plan_after}
 use Rattle.secrecy.specs.Secrecy.{After, Answers, answers_of, Run, loaded, InScale, SecondSamples, hidden_pair, hidden_pairs, bringing, replaced, SealedUnder, AllSealed, WordsBelow, AllSame}
@@ -31,16 +31,16 @@ pub record Taken (n : ℕ) (p : Option Numbers) (x : Pair) : Type 0 where
   pub kept : Kept
   pub force : InForce n p kept
 
-accepted_never : (x : Refusal) (st : State) (bl : Pairs (Halves ℕ)) (r : Reply) (st' : State) (bl' : Pairs (Halves ℕ)) → Declined x st bl (Ok r) st' bl' → ⊥
+accepted_never : (x : Refusal) (st : State) (bl : Pairs (Halves ℕ)) (r : Option Line) (st' : State) (bl' : Pairs (Halves ℕ)) → Declined x st bl (Ok r) st' bl' → ⊥
 accepted_never x st bl r st' bl' s = let e = s.answer in let z : ◌≡◌ {A = ℕ} 0 1 = cc in omega arith
 
-taken_formed : (n i : ℕ) (st : State) (bl : Pairs (Halves ℕ)) (c : Call (Halves ℕ)) (r : Reply) (st' : State) (bl' : Pairs (Halves ℕ)) (a b f : Bool) → StepBy (unless a Place (unless b Strange (unless f (Malformed i) None))) (shares n) st bl c (Ok r) st' bl' → f ≡ true
+taken_formed : (n i : ℕ) (st : State) (bl : Pairs (Halves ℕ)) (c : Call (Halves ℕ)) (r : Option Line) (st' : State) (bl' : Pairs (Halves ℕ)) (a b f : Bool) → StepBy (unless a Place (unless b Strange (unless f (Malformed i) None))) (shares n) st bl c (Ok r) st' bl' → f ≡ true
 taken_formed n i st bl c r st' bl' false b f s = absurd (accepted_never Place st bl r st' bl' s)
 taken_formed n i st bl c r st' bl' true false f s = absurd (accepted_never Strange st bl r st' bl' s)
 taken_formed n i st bl c r st' bl' true true false s = absurd (accepted_never (Malformed i) st bl r st' bl' s)
 taken_formed n i st bl c r st' bl' true true true s = refl
 
-taken : (n : ℕ) (p : Option Numbers) (st : State) (bl : Pairs (Halves ℕ)) (i : ℕ) (x : Pair) (r : Reply) (st' : State) (bl' : Pairs (Halves ℕ)) → Tied n p st → Step (shares n) st bl (Load i x) (Ok r) st' bl' → Taken n p x
+taken : (n : ℕ) (p : Option Numbers) (st : State) (bl : Pairs (Halves ℕ)) (i : ℕ) (x : Pair) (r : Option Line) (st' : State) (bl' : Pairs (Halves ℕ)) → Tied n p st → Step (shares n) st bl (Load i x) (Ok r) st' bl' → Taken n p x
 taken n p Idle bl i x r st' bl' t s = absurd (accepted_never Moment Idle bl r st' bl' s)
 taken n p (Filling kept count) bl i x r st' bl' t s =
     record {
@@ -87,7 +87,7 @@ pub record Serve (n : ℕ) (p : Option Numbers) (cs : List (Call (Halves ℕ))) 
   pub sealed : AllSealed n p cs rs zs ws
 
 -- the first call of the list with the second samples, and the samples that are left for the others
-pub record Next (n : ℕ) (h : Bool) (p : Option Numbers) (c : Call (Halves ℕ)) (cs : List (Call (Halves ℕ))) (r : Result Reply Refusal) (rs : Answers) (zs : List Complex) : Type 0 where
+pub record Next (n : ℕ) (h : Bool) (p : Option Numbers) (c : Call (Halves ℕ)) (cs : List (Call (Halves ℕ))) (r : Result (Option Line) Refusal) (rs : Answers) (zs : List Complex) : Type 0 where
   pub pair : Pair
   pub later : List Complex
   pub calls : replaced (c ∷ cs) (r ∷ rs) (hidden_pairs n zs (masks n h (c ∷ cs) (r ∷ rs) zs)) ≡ bringing pair c ∷ replaced cs rs (hidden_pairs n later (masks n h cs rs later))
@@ -97,7 +97,7 @@ pub record Next (n : ℕ) (h : Bool) (p : Option Numbers) (c : Call (Halves ℕ)
 
 module _ (n : ℕ) (modulus : is_modulus n ≡ true) (h : Bool) (p : Option Numbers) (cs : List (Call (Halves ℕ))) (rs : Answers) (zs : List Complex) where
   -- a call that is no accepted load stays
-  stays : (c : Call (Halves ℕ)) (r : Result Reply Refusal) → loaded r c ≡ None → SecondSamples p (c ∷ cs) (r ∷ rs) zs → Next n h p c cs r rs zs
+  stays : (c : Call (Halves ℕ)) (r : Result (Option Line) Refusal) → loaded r c ≡ None → SecondSamples p (c ∷ cs) (r ∷ rs) zs → Next n h p c cs r rs zs
   stays c r e s =
       record {
         pair = brought c;
@@ -119,7 +119,7 @@ module _ (n : ℕ) (modulus : is_modulus n ≡ true) (h : Bool) (p : Option Numb
       subst (λ (o : Option Numbers). SealedUnder n o z w) (sym f.force) (sealed_as n modulus q.sample z w within room' a b)
 
   -- an accepted load brings the next sample under its words
-  loads : (i : ℕ) (x : Pair) (r : Reply) (zs : List Complex) → Taken n p x → SecondSamples p (Load i x ∷ cs) (Ok r ∷ rs) zs → Next n h p (Load i x) cs (Ok r) rs zs
+  loads : (i : ℕ) (x : Pair) (r : Option Line) (zs : List Complex) → Taken n p x → SecondSamples p (Load i x ∷ cs) (Ok r ∷ rs) zs → Next n h p (Load i x) cs (Ok r) rs zs
   loads i x r [] t s = absurd s
   loads i x r (z ∷ zs) t s =
       let a = word_below n modulus z.re x.0 (and_first ((shares n).wf x.0) ((shares n).wf x.1) t.formed) h in
@@ -133,7 +133,7 @@ module _ (n : ℕ) (modulus : is_modulus n ≡ true) (h : Bool) (p : Option Numb
         serve = λ f. record { many = ap suc f.many; below = (a, b, f.below); sealed = (seal_under z (words n h z x) t.kept t.force s.0 a b, f.sealed) };
       }
 
-  pub next : (c : Call (Halves ℕ)) (r : Result Reply Refusal) (zs : List Complex) (st : State) (bl : Pairs (Halves ℕ)) (st' : State) (bl' : Pairs (Halves ℕ)) → Tied n p st → Step (shares n) st bl c r st' bl' → SecondSamples p (c ∷ cs) (r ∷ rs) zs → Next n h p c cs r rs zs
+  pub next : (c : Call (Halves ℕ)) (r : Result (Option Line) Refusal) (zs : List Complex) (st : State) (bl : Pairs (Halves ℕ)) (st' : State) (bl' : Pairs (Halves ℕ)) → Tied n p st → Step (shares n) st bl c r st' bl' → SecondSamples p (c ∷ cs) (r ∷ rs) zs → Next n h p c cs r rs zs
   next c (Err x) zs st bl st' bl' t k s = stays n modulus h p cs rs zs c (Err x) refl s
   next (PlanCall m size q1 q2) (Ok r) zs st bl st' bl' t k s = stays n modulus h p cs rs zs (PlanCall m size q1 q2) (Ok r) refl s
   next (Load i x) (Ok r) zs st bl st' bl' t k s = loads i x r zs (taken n p st bl i x r st' bl' t k) s

@@ -16,8 +16,7 @@ use Rattle.states.specs.declared.State.{State}
 use Rattle.states.specs.declared.State.TheVariants.{Idle, Filling, Running, Finished}
 use Rattle.states.specs.declared.Call.{Call}
 use Rattle.states.specs.declared.Call.TheVariants.{Plan as PlanCall, Load, Begin, Advance, Line as LineCall, Restart}
-use Rattle.states.specs.declared.Reply.{Reply}
-use Rattle.states.specs.declared.Reply.TheVariants.{Done}
+use Rattle.states.specs.declared.Line.{Line}
 use Rattle.states.specs.Step.{Pairs, Step, StepBy, Accepted, Becomes, Planned, Advanced, declined, plan_declined, line_malformed, unless, first, malformed, first_malformed_place, progress, stages_for}
 use Rattle.states.specs.History.{Numbers, plan_after}
 use Rattle.secrecy.specs.Secrecy.{bringing, refusal_of}
@@ -39,8 +38,8 @@ Tied n p (Filling kept count) = InForce n p kept
 Tied n p (Running kept t) = InForce n p kept × (t < stages_for kept.plan)
 Tied n p (Finished kept) = InForce n p kept
 
-tied_as : (n : ℕ) (p : Option Numbers) (c : Call (Halves ℕ)) (a a' : Result Reply Refusal) (st st' : State) → a ≡ a' → st ≡ st' → Tied n (plan_after a' c p) st' → Tied n (plan_after a c p) st
-tied_as n p c a a' st st' e f h = subst (λ (s : State). Tied n (plan_after a c p) s) (sym f) (subst (λ (b : Result Reply Refusal). Tied n (plan_after b c p) st') (sym e) h)
+tied_as : (n : ℕ) (p : Option Numbers) (c : Call (Halves ℕ)) (a a' : Result (Option Line) Refusal) (st st' : State) → a ≡ a' → st ≡ st' → Tied n (plan_after a' c p) st' → Tied n (plan_after a c p) st
+tied_as n p c a a' st st' e f h = subst (λ (s : State). Tied n (plan_after a c p) s) (sym f) (subst (λ (b : Result (Option Line) Refusal). Tied n (plan_after b c p) st') (sym e) h)
 
 tied_progress : (n : ℕ) (p : Option Numbers) (kept : Kept) (t : ℕ) → InForce n p kept → t ≤ stages_for kept.plan → Tied n p (progress kept t)
 tied_progress n p kept t f l = go (eqb t (stages_for kept.plan)) refl
@@ -69,14 +68,14 @@ malformed_none None e = refl
 malformed_none (Some i) e = absurd (none_some (Malformed i) e)
 
 module _ (n : ℕ) (p : Option Numbers) where
-  tied_plan : (bl : Pairs (Halves ℕ)) (k : Method) (size q1 q2 : ℕ) (a : Result Reply Refusal) (st' : State) (bl' : Pairs (Halves ℕ)) → plan_declined (shares n) bl k size q1 q2 ≡ None → Planned (shares n) bl k size q1 q2 a st' bl' → Tied n (plan_after {N = Halves ℕ} a (PlanCall k size q1 q2) p) st'
+  tied_plan : (bl : Pairs (Halves ℕ)) (k : Method) (size q1 q2 : ℕ) (a : Result (Option Line) Refusal) (st' : State) (bl' : Pairs (Halves ℕ)) → plan_declined (shares n) bl k size q1 q2 ≡ None → Planned (shares n) bl k size q1 q2 a st' bl' → Tied n (plan_after {N = Halves ℕ} a (PlanCall k size q1 q2) p) st'
   tied_plan bl k size q1 q2 a st' bl' e s =
       let f = s.has in
       let figures : meaning_of s.plan ≡ figures_of k size q1 q2 =
       λ j. figures_of (f.method j) (f.size j) (f.sample j) (f.twiddle j) in
       let later = first_later (refused k size q1 q2) (unless (leb size (length bl)) Block (unless (leb (least_modulus_of (figures_of k size q1 q2)) n) Narrow None)) e in
       let fitting = unless_holds (leb (least_modulus_of (figures_of k size q1 q2)) n) Narrow None (unless_later (leb size (length bl)) Block (unless (leb (least_modulus_of (figures_of k size q1 q2)) n) Narrow None) later) in
-      tied_as n p (PlanCall k size q1 q2) a (Ok Done) st' (Filling (record { plan = s.plan; modulus = n }) 0) s.becomes.answer s.becomes.after
+      tied_as n p (PlanCall k size q1 q2) a (Ok None) st' (Filling (record { plan = s.plan; modulus = n }) 0) s.becomes.answer s.becomes.after
       (record {
         numbers = record { method = k; size = size; sample = q1; twiddle = q2 };
         force = refl;
@@ -84,30 +83,30 @@ module _ (n : ℕ) (p : Option Numbers) where
         fits = rw figures (leb-true (least_modulus_of (figures_of k size q1 q2)) n fitting);
       })
 
-  tied_accepted : (c : Call (Halves ℕ)) (st : State) (bl : Pairs (Halves ℕ)) (a : Result Reply Refusal) (st' : State) (bl' : Pairs (Halves ℕ)) → Tied n p st → declined (shares n) st bl c ≡ None → Accepted (shares n) st bl c a st' bl' → Tied n (plan_after a c p) st'
+  tied_accepted : (c : Call (Halves ℕ)) (st : State) (bl : Pairs (Halves ℕ)) (a : Result (Option Line) Refusal) (st' : State) (bl' : Pairs (Halves ℕ)) → Tied n p st → declined (shares n) st bl c ≡ None → Accepted (shares n) st bl c a st' bl' → Tied n (plan_after a c p) st'
   tied_accepted (PlanCall k size q1 q2) st bl a st' bl' t e s = tied_plan bl k size q1 q2 a st' bl' e s
   tied_accepted (Load i x) Idle bl a st' bl' t e s = absurd s
-  tied_accepted (Load i x) (Filling kept count) bl a st' bl' t e s = tied_as n p (Load i x) a (Ok Done) st' (Filling kept (cond (eqb i count) (suc count) count)) s.answer s.after t
+  tied_accepted (Load i x) (Filling kept count) bl a st' bl' t e s = tied_as n p (Load i x) a (Ok None) st' (Filling kept (cond (eqb i count) (suc count) count)) s.answer s.after t
   tied_accepted (Load i x) (Running kept j) bl a st' bl' t e s = absurd s
   tied_accepted (Load i x) (Finished kept) bl a st' bl' t e s = absurd s
   tied_accepted Begin Idle bl a st' bl' t e s = absurd s
-  tied_accepted Begin (Filling kept count) bl a st' bl' t e s = tied_as n p Begin a (Ok Done) st' (progress kept 0) s.answer s.after (tied_progress n p kept 0 t (omega arith))
+  tied_accepted Begin (Filling kept count) bl a st' bl' t e s = tied_as n p Begin a (Ok None) st' (progress kept 0) s.answer s.after (tied_progress n p kept 0 t (omega arith))
   tied_accepted Begin (Running kept j) bl a st' bl' t e s = absurd s
   tied_accepted Begin (Finished kept) bl a st' bl' t e s = absurd s
   tied_accepted Advance Idle bl a st' bl' t e s = absurd s
   tied_accepted Advance (Filling kept count) bl a st' bl' t e s = absurd s
-  tied_accepted Advance (Running kept j) bl a st' bl' t e s = tied_as n p Advance a (Ok Done) st' (progress kept (suc j)) s.becomes.answer s.becomes.after (tied_progress n p kept (suc j) t.0 t.1)
+  tied_accepted Advance (Running kept j) bl a st' bl' t e s = tied_as n p Advance a (Ok None) st' (progress kept (suc j)) s.becomes.answer s.becomes.after (tied_progress n p kept (suc j) t.0 t.1)
   tied_accepted Advance (Finished kept) bl a st' bl' t e s = absurd s
   tied_accepted (LineCall k) Idle bl a st' bl' t e s = absurd s
   tied_accepted (LineCall k) (Filling kept count) bl a st' bl' t e s = absurd s
   tied_accepted (LineCall k) (Running kept j) bl a st' bl' t e s = absurd s
   tied_accepted (LineCall k) (Finished kept) bl a st' bl' t e s = tied_as n p (LineCall k) a (Ok _) st' (Finished kept) s.answer s.after t
   tied_accepted Restart Idle bl a st' bl' t e s = absurd s
-  tied_accepted Restart (Filling kept count) bl a st' bl' t e s = tied_as n p Restart a (Ok Done) st' (Filling kept 0) s.answer s.after t
-  tied_accepted Restart (Running kept j) bl a st' bl' t e s = tied_as n p Restart a (Ok Done) st' (Filling kept 0) s.answer s.after t.0
-  tied_accepted Restart (Finished kept) bl a st' bl' t e s = tied_as n p Restart a (Ok Done) st' (Filling kept 0) s.answer s.after t
+  tied_accepted Restart (Filling kept count) bl a st' bl' t e s = tied_as n p Restart a (Ok None) st' (Filling kept 0) s.answer s.after t
+  tied_accepted Restart (Running kept j) bl a st' bl' t e s = tied_as n p Restart a (Ok None) st' (Filling kept 0) s.answer s.after t.0
+  tied_accepted Restart (Finished kept) bl a st' bl' t e s = tied_as n p Restart a (Ok None) st' (Filling kept 0) s.answer s.after t
 
-  pub tied_step : (c : Call (Halves ℕ)) (st : State) (bl : Pairs (Halves ℕ)) (a : Result Reply Refusal) (st' : State) (bl' : Pairs (Halves ℕ)) → Tied n p st → Step (shares n) st bl c a st' bl' → Tied n (plan_after a c p) st'
+  pub tied_step : (c : Call (Halves ℕ)) (st : State) (bl : Pairs (Halves ℕ)) (a : Result (Option Line) Refusal) (st' : State) (bl' : Pairs (Halves ℕ)) → Tied n p st → Step (shares n) st bl c a st' bl' → Tied n (plan_after a c p) st'
   tied_step c st bl a st' bl' t s = go (declined (shares n) st bl c) refl s
     where
       go : (o : Option Refusal) → declined (shares n) st bl c ≡ o → StepBy o (shares n) st bl c a st' bl' → Tied n (plan_after a c p) st'
@@ -161,13 +160,13 @@ module _ (n : ℕ) (h : Bool) (xs ys : Pairs (Halves ℕ)) (alike : Alike n h xs
 -- ---- the same to the house
 
 -- the answers are the same refusal or both none, the states are equal, the blocks alike
-pub record Same (n : ℕ) (h : Bool) (a a' : Result Reply Refusal) (st st' : State) (xs ys : Pairs (Halves ℕ)) : Type 0 where
+pub record Same (n : ℕ) (h : Bool) (a a' : Result (Option Line) Refusal) (st st' : State) (xs ys : Pairs (Halves ℕ)) : Type 0 where
   pub refusal : refusal_of a ≡ refusal_of a'
   pub state : st ≡ st'
   pub blocks : Alike n h xs ys
 
 -- two accepted calls that come to the same state and alike blocks
-becomes_same : (n : ℕ) (h : Bool) (r r' : Reply) (st : State) (xs ys : Pairs (Halves ℕ)) (a a' : Result Reply Refusal) (st₁ st₂ : State) (xs' ys' : Pairs (Halves ℕ)) → Alike n h xs ys → Becomes r st xs a st₁ xs' → Becomes r' st ys a' st₂ ys' → Same n h a a' st₁ st₂ xs' ys'
+becomes_same : (n : ℕ) (h : Bool) (r r' : Option Line) (st : State) (xs ys : Pairs (Halves ℕ)) (a a' : Result (Option Line) Refusal) (st₁ st₂ : State) (xs' ys' : Pairs (Halves ℕ)) → Alike n h xs ys → Becomes r st xs a st₁ xs' → Becomes r' st ys a' st₂ ys' → Same n h a a' st₁ st₂ xs' ys'
 becomes_same n h r r' st xs ys a a' st₁ st₂ xs' ys' e s s' =
     record {
       refusal = ap refusal_of s.answer ∙ sym (ap refusal_of s'.answer);
@@ -175,16 +174,16 @@ becomes_same n h r r' st xs ys a a' st₁ st₂ xs' ys' e s s' =
       blocks = ap (map (known n h)) s.holds ∙ e ∙ sym (ap (map (known n h)) s'.holds);
     }
 
-module _ (n : ℕ) (lawful : Sound (shares n)) (h : Bool) (p : Option Numbers) (xs ys : Pairs (Halves ℕ)) (alike : Alike n h xs ys) (a a' : Result Reply Refusal) (st₁ st₂ : State) (xs' ys' : Pairs (Halves ℕ)) where
+module _ (n : ℕ) (lawful : Sound (shares n)) (h : Bool) (p : Option Numbers) (xs ys : Pairs (Halves ℕ)) (alike : Alike n h xs ys) (a a' : Result (Option Line) Refusal) (st₁ st₂ : State) (xs' ys' : Pairs (Halves ℕ)) where
   plan_same : (k : Method) (size q1 q2 : ℕ) → Planned (shares n) xs k size q1 q2 a st₁ xs' → Planned (shares n) ys k size q1 q2 a' st₂ ys' → Same n h a a' st₁ st₂ xs' ys'
   plan_same k size q1 q2 s s' =
       let e : s'.plan ≡ s.plan = same_plan s'.plan s.plan k size q1 q2 s'.has s.has in
-      becomes_same n h Done Done (Filling (record { plan = s.plan; modulus = n }) 0) xs ys a a' st₁ st₂ xs' ys' alike s.becomes
+      becomes_same n h None None (Filling (record { plan = s.plan; modulus = n }) 0) xs ys a a' st₁ st₂ xs' ys' alike s.becomes
       (record { answer = s'.becomes.answer; after = s'.becomes.after ∙ ap (λ (q : Plan). Filling (record { plan = q; modulus = n }) 0) e; holds = s'.becomes.holds })
 
   advance_same : (kept : Kept) (t : ℕ) → t < stages_for kept.plan → first_malformed_place (shares n) xs kept.plan.size ≡ None → Advanced (shares n) kept t xs a st₁ xs' → Advanced (shares n) kept t ys a' st₂ ys' → Same n h a a' st₁ st₂ xs' ys'
   advance_same kept t due clean s s' =
-      becomes_same n h Done Done (progress kept (suc t)) xs' ys' a a' st₁ st₂ xs' ys'
+      becomes_same n h None None (progress kept (suc t)) xs' ys' a a' st₁ st₂ xs' ys'
       (stage_alike n lawful h kept.plan t due xs xs' ys ys' alike s.stage s'.stage clean (sym (alike_malformed n h xs ys alike kept.plan.size) ∙ clean))
       s.becomes s'.becomes
 
@@ -193,11 +192,11 @@ module _ (n : ℕ) (lawful : Sound (shares n)) (h : Bool) (p : Option Numbers) (
   accepted_same (Load i x) y Idle t e d s s' = absurd s
   accepted_same (Load i x) y (Filling kept count) t e d s s' =
       let at : ℕ = place_of kept.plan.method kept.plan.size i in
-      becomes_same n h Done Done (Filling kept (cond (eqb i count) (suc count) count)) (set xs at x) (set ys at y) a a' st₁ st₂ xs' ys' (alike_set n h xs ys at x y alike e) s s'
+      becomes_same n h None None (Filling kept (cond (eqb i count) (suc count) count)) (set xs at x) (set ys at y) a a' st₁ st₂ xs' ys' (alike_set n h xs ys at x y alike e) s s'
   accepted_same (Load i x) y (Running kept j) t e d s s' = absurd s
   accepted_same (Load i x) y (Finished kept) t e d s s' = absurd s
   accepted_same Begin y Idle t e d s s' = absurd s
-  accepted_same Begin y (Filling kept count) t e d s s' = becomes_same n h Done Done (progress kept 0) xs ys a a' st₁ st₂ xs' ys' alike s s'
+  accepted_same Begin y (Filling kept count) t e d s s' = becomes_same n h None None (progress kept 0) xs ys a a' st₁ st₂ xs' ys' alike s s'
   accepted_same Begin y (Running kept j) t e d s s' = absurd s
   accepted_same Begin y (Finished kept) t e d s s' = absurd s
   accepted_same Advance y Idle t e d s s' = absurd s
@@ -211,9 +210,9 @@ module _ (n : ℕ) (lawful : Sound (shares n)) (h : Bool) (p : Option Numbers) (
   accepted_same (LineCall k) y (Running kept j) t e d s s' = absurd s
   accepted_same (LineCall k) y (Finished kept) t e d s s' = becomes_same n h _ _ (Finished kept) xs ys a a' st₁ st₂ xs' ys' alike s s'
   accepted_same Restart y Idle t e d s s' = absurd s
-  accepted_same Restart y (Filling kept count) t e d s s' = becomes_same n h Done Done (Filling kept 0) xs ys a a' st₁ st₂ xs' ys' alike s s'
-  accepted_same Restart y (Running kept j) t e d s s' = becomes_same n h Done Done (Filling kept 0) xs ys a a' st₁ st₂ xs' ys' alike s s'
-  accepted_same Restart y (Finished kept) t e d s s' = becomes_same n h Done Done (Filling kept 0) xs ys a a' st₁ st₂ xs' ys' alike s s'
+  accepted_same Restart y (Filling kept count) t e d s s' = becomes_same n h None None (Filling kept 0) xs ys a a' st₁ st₂ xs' ys' alike s s'
+  accepted_same Restart y (Running kept j) t e d s s' = becomes_same n h None None (Filling kept 0) xs ys a a' st₁ st₂ xs' ys' alike s s'
+  accepted_same Restart y (Finished kept) t e d s s' = becomes_same n h None None (Filling kept 0) xs ys a a' st₁ st₂ xs' ys' alike s s'
 
   step_by : (c : Call (Halves ℕ)) (y : Pair) (st : State) → Tied n p st → AlikeLoad n h c y → (o : Option Refusal) → declined (shares n) st xs c ≡ o → StepBy o (shares n) st xs c a st₁ xs' → StepBy o (shares n) st ys (bringing y c) a' st₂ ys' → Same n h a a' st₁ st₂ xs' ys'
   step_by c y st t e None d s s' = accepted_same c y st t e d s s'

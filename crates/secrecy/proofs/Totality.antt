@@ -15,8 +15,7 @@ use Rattle.states.specs.declared.State.{State}
 use Rattle.states.specs.declared.State.TheVariants.{Idle, Filling, Running, Finished}
 use Rattle.states.specs.declared.Call.{Call}
 use Rattle.states.specs.declared.Call.TheVariants.{Plan as PlanCall, Load, Begin, Advance, Line as LineCall, Restart}
-use Rattle.states.specs.declared.Reply.{Reply}
-use Rattle.states.specs.declared.Reply.TheVariants.{Done, Opened}
+use Rattle.states.specs.declared.Line.{Line}
 use Rattle.states.specs.Step.{Pairs, Step, StepBy, Accepted, Becomes, declined, first, unless, malformed, first_malformed_place, progress, stated, line_read}
 use Rattle.states.specs.History.{Numbers, plan_after}
 use Rattle.secrecy.specs.Secrecy.{After, Run}
@@ -77,13 +76,13 @@ plan_made k m q1 q2 e =
 -- ---- one call
 
 record Goes (n : ℕ) (st : State) (bl : Pairs (Halves ℕ)) (c : Call (Halves ℕ)) : Type 0 where
-  answer : Result Reply Refusal
+  answer : Result (Option Line) Refusal
   state : State
   block : Pairs (Halves ℕ)
   step : Accepted (shares n) st bl c answer state block
 
 pub record Steps (n : ℕ) (st : State) (bl : Pairs (Halves ℕ)) (c : Call (Halves ℕ)) : Type 0 where
-  pub answer : Result Reply Refusal
+  pub answer : Result (Option Line) Refusal
   pub state : State
   pub block : Pairs (Halves ℕ)
   pub step : Step (shares n) st bl c answer state block
@@ -92,20 +91,20 @@ moment : (x : Refusal) (T : Type 0) → Some x ≡ None → T
 moment x T e = absurd (none_some x e)
 
 module _ (n : ℕ) (modulus : is_modulus n ≡ true) (p : Option Numbers) (bl : Pairs (Halves ℕ)) where
-  simply : (r : Reply) (st : State) (bl' : Pairs (Halves ℕ)) → Becomes r st bl' (Ok r) st bl'
+  simply : (r : Option Line) (st : State) (bl' : Pairs (Halves ℕ)) → Becomes r st bl' (Ok r) st bl'
   simply r st bl' = record { answer = refl; after = refl; holds = refl }
 
   goes : (c : Call (Halves ℕ)) (st : State) → Tied n p st → declined (shares n) st bl c ≡ None → Goes n st bl c
   goes (PlanCall k size q1 q2) st t d =
       let made = plan_made k size q1 q2 (first_none (refused k size q1 q2) (unless (leb size (length bl)) Block (unless (leb (least_modulus_of (figures_of k size q1 q2)) n) Narrow None)) d) in
       let st' : State = Filling (record { plan = made.plan; modulus = n }) 0 in
-      record { answer = Ok Done; state = st'; block = bl; step = record { plan = made.plan; has = made.has; becomes = simply Done st' bl } }
+      record { answer = Ok None; state = st'; block = bl; step = record { plan = made.plan; has = made.has; becomes = simply None st' bl } }
   goes (Load i x) Idle t d = moment _ _ d
-  goes (Load i x) (Filling kept count) t d = record { answer = Ok Done; state = _; block = _; step = simply Done (Filling kept (cond (eqb i count) (suc count) count)) (set bl (place_of kept.plan.method kept.plan.size i) x) }
+  goes (Load i x) (Filling kept count) t d = record { answer = Ok None; state = _; block = _; step = simply None (Filling kept (cond (eqb i count) (suc count) count)) (set bl (place_of kept.plan.method kept.plan.size i) x) }
   goes (Load i x) (Running kept j) t d = moment _ _ d
   goes (Load i x) (Finished kept) t d = moment _ _ d
   goes Begin Idle t d = moment _ _ d
-  goes Begin (Filling kept count) t d = record { answer = Ok Done; state = _; block = _; step = simply Done (progress kept 0) bl }
+  goes Begin (Filling kept count) t d = record { answer = Ok None; state = _; block = _; step = simply None (progress kept 0) bl }
   goes Begin (Running kept j) t d = moment _ _ d
   goes Begin (Finished kept) t d = moment _ _ d
   goes Advance Idle t d = moment _ _ d
@@ -113,18 +112,18 @@ module _ (n : ℕ) (modulus : is_modulus n ≡ true) (p : Option Numbers) (bl : 
   goes Advance (Running kept j) t d =
       let clean : first_malformed_place (shares n) bl kept.plan.size ≡ None = malformed_none (first_malformed_place (shares n) bl kept.plan.size) (unless_later (eqb n kept.modulus) Strange (malformed (first_malformed_place (shares n) bl kept.plan.size)) d) in
       let bl' : Pairs (Halves ℕ) = after n (positive n modulus) kept.plan j t.1 bl clean in
-      record { answer = Ok Done; state = progress kept (suc j); block = bl'; step = record { stage = stage_made n (positive n modulus) kept.plan j t.1 bl clean; becomes = simply Done (progress kept (suc j)) bl' } }
+      record { answer = Ok None; state = progress kept (suc j); block = bl'; step = record { stage = stage_made n (positive n modulus) kept.plan j t.1 bl clean; becomes = simply None (progress kept (suc j)) bl' } }
   goes Advance (Finished kept) t d = moment _ _ d
   goes (LineCall k) Idle t d = moment _ _ d
   goes (LineCall k) (Filling kept count) t d = moment _ _ d
   goes (LineCall k) (Running kept j) t d = moment _ _ d
   goes (LineCall k) (Finished kept) t d =
-      let r : Reply = Opened (stated (shares n) kept.plan k (line_read (shares n) kept.plan kept.plan.method bl k)) in
+      let r : (Option Line) = Some (stated (shares n) kept.plan k (line_read (shares n) kept.plan kept.plan.method bl k)) in
       record { answer = Ok r; state = Finished kept; block = bl; step = simply r (Finished kept) bl }
   goes Restart Idle t d = moment _ _ d
-  goes Restart (Filling kept count) t d = record { answer = Ok Done; state = _; block = _; step = simply Done (Filling kept 0) bl }
-  goes Restart (Running kept j) t d = record { answer = Ok Done; state = _; block = _; step = simply Done (Filling kept 0) bl }
-  goes Restart (Finished kept) t d = record { answer = Ok Done; state = _; block = _; step = simply Done (Filling kept 0) bl }
+  goes Restart (Filling kept count) t d = record { answer = Ok None; state = _; block = _; step = simply None (Filling kept 0) bl }
+  goes Restart (Running kept j) t d = record { answer = Ok None; state = _; block = _; step = simply None (Filling kept 0) bl }
+  goes Restart (Finished kept) t d = record { answer = Ok None; state = _; block = _; step = simply None (Filling kept 0) bl }
 
   pub steps : (c : Call (Halves ℕ)) (st : State) → Tied n p st → Steps n st bl c
   steps c st t = go (declined (shares n) st bl c) refl

@@ -12,7 +12,6 @@ use Rattle.split.specs.Shares.{split}
 use Rattle.states.specs.declared.State.TheVariants.{Idle}
 use Rattle.states.specs.declared.Call.{Call}
 use Rattle.states.specs.declared.Call.TheVariants.{Plan as PlanCall, Load, Begin, Line as LineCall}
-use Rattle.states.specs.declared.Reply.TheVariants.{Done, Opened}
 use Rattle.states.specs.Step.{Pairs}
 use Rattle.states.specs.History.{Numbers}
 use Rattle.secrecy.specs.Secrecy.{After, answers_of, Run, InScale, SecondSamples, hidden_pair}
@@ -34,7 +33,7 @@ other_sample = complex (negsuc 0) (pos 0) ∷ []
 pub record OneLine : Type 0 where
   pub after : List (After (Halves ℕ))
   pub run : Run (split (residues 81)) Idle one_start one_calls after
-  pub answers : answers_of after ≡ Ok Done ∷ Ok Done ∷ Ok Done ∷ Ok (Opened (record { index = 0; re = pos 1; im = pos 0; scale = 1; distance = 1 })) ∷ []
+  pub answers : answers_of after ≡ Ok None ∷ Ok None ∷ Ok None ∷ Ok (Some (record { index = 0; re = pos 1; im = pos 0; scale = 1; distance = 1 })) ∷ []
   pub second : SecondSamples None one_calls (answers_of after) other_sample
   pub words : masks 81 true one_calls (answers_of after) other_sample ≡ (68, 3) ∷ []
 

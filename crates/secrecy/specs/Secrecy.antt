@@ -15,17 +15,17 @@ use Rattle.states.specs.declared.State.{State}
 use Rattle.states.specs.declared.State.TheVariants.{Idle}
 use Rattle.states.specs.declared.Call.{Call}
 use Rattle.states.specs.declared.Call.TheVariants.{Plan as PlanCall, Load, Begin, Advance, Line as LineCall, Restart}
-use Rattle.states.specs.declared.Reply.{Reply}
+use Rattle.states.specs.declared.Line.{Line}
 use Rattle.states.specs.Step.{Pairs, Step}
 use Rattle.states.specs.History.{Numbers, plan_after}
 
 -- what a call answered, and the block that it left
 pub record After (N : Type 0) : Type 0 where
-  pub answer : Result Reply Refusal
+  pub answer : Result (Option Line) Refusal
   pub block : Pairs N
 
 abbrev pub Answers : Type 0
-Answers = List (Result Reply Refusal)
+Answers = List (Result (Option Line) Refusal)
 
 -- the answers of a run alone
 abbrev pub answers_of : {N : Type 0} → List (After N) → Answers
@@ -40,7 +40,7 @@ Run m st bl (c ∷ cs) [] = ⊥
 Run m st bl (c ∷ cs) (t ∷ ts) = (st' : State) × Step m st bl c t.answer st' t.block × Run m st' t.block cs ts
 
 -- the pair that a call brings, where it is an accepted load
-abbrev pub loaded : {N : Type 0} → Result Reply Refusal → Call N → Option (N × N)
+abbrev pub loaded : {N : Type 0} → Result (Option Line) Refusal → Call N → Option (N × N)
 loaded (Err x) c = None
 loaded (Ok r) (PlanCall k size q1 q2) = None
 loaded (Ok r) (Load n x) = Some x
@@ -140,7 +140,7 @@ abbrev pub halves : Bool → Halves ℕ × Halves ℕ → ℕ × ℕ
 halves h x = (half h x.0, half h x.1)
 
 -- the refusal of a declined call
-abbrev pub refusal_of : Result Reply Refusal → Option Refusal
+abbrev pub refusal_of : Result (Option Line) Refusal → Option Refusal
 refusal_of (Ok r) = None
 refusal_of (Err x) = Some x
 

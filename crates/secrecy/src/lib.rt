@@ -19,20 +19,16 @@ pub enum House {
 
 // Neither house's numbers tell the samples. Under the split over plain residues, for either house, every list of calls on a new window
 // over any block, and any second samples within the sample scale, there are mask words with which the same calls are declined, and
-// after every call that house holds the same half of every number of the block. The answer says nothing; the contract is the theorem.
-pub fn houses_learn_no_sample() -> u8
+// after every call that house holds the same half of every number of the block.
+pub fn houses_learn_no_sample()
     ensures { SecrecyStands }
-{
-    0
-}
+{}
 
 // The theorem above is not empty: every list of calls has a run over every block, every sample that was sealed under the sample scale
 // will do as a second sample, and some runs load samples and open lines.
-pub fn secrecy_speaks_of_runs() -> u8
+pub fn secrecy_speaks_of_runs()
     ensures { SecrecySpeaks }
-{
-    0
-}
+{}
 
 // The mask word under which the house holds the same half of the number z as it holds of x.
 pub fn mask_word(n: Modulus, house: House, z: i64, x: Halves<u64>) -> u64

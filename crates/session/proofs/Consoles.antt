@@ -1,5 +1,5 @@
 -- The law on opened lines, over whole sessions.
-use Rattle.std.proofs.Common.{◌≡◌, true, List, [], ◌∷◌, Ok, Err, sym, refl, subst, inl, inr}
+use Rattle.std.proofs.Common.{◌≡◌, true, List, [], ◌∷◌, Ok, Err, sym, refl, subst, inl, inr, None}
 use Rattle.integers.specs.Modulus.{is_modulus}
 use Rattle.refusal.specs.declared.kinds.Refusal.{Refusal}
 use Rattle.refusal.specs.declared.kinds.Refusal.TheVariants.{Moment, Modulus, Garbled}
@@ -8,7 +8,6 @@ use Rattle.split.specs.Shares.{split}
 use Rattle.system.specs.Meant.{meant}
 use Rattle.system.specs.Laws.{sound}
 use Rattle.secrecy.proofs.Masks.{plain_sound, split_sound}
-use Rattle.states.specs.declared.Reply.TheVariants.{Done}
 use Rattle.command.specs.declared.kinds.Choice.{Choice}
 use Rattle.command.specs.declared.kinds.Choice.TheVariants.{Plain as PlainChoice, System as SystemChoice, Split as SplitChoice}
 use Rattle.command.specs.declared.kinds.Command.{Command}
@@ -39,13 +38,13 @@ declined_leaves : (w w' : Console) (d : Decoded) (x : Refusal) → Reachable (Er
 declined_leaves w w' d x met a past h e f = subst (λ (b : Answer). Leaves w' d b past) (sym e) (subst (λ (v : Console). Leaves v d (Err x) past) (sym f) (known_declined w d x past h, tt, met))
 
 -- a new window
-chosen_leaves : (c : Choice) (w : Console) (a : Answer) (past : List Typed) → LawfulChoice c → a ≡ Ok Done → Opens c w → Leaves w (Ok (Choose c)) a past
+chosen_leaves : (c : Choice) (w : Console) (a : Answer) (past : List Typed) → LawfulChoice c → a ≡ Ok None → Opens c w → Leaves w (Ok (Choose c)) a past
 chosen_leaves (PlainChoice n) w a past lawful e (bl, long, f) =
-    subst (λ (b : Answer). Leaves w (Ok (Choose (PlainChoice n))) b past) (sym e) (subst (λ (v : Console). Leaves v (Ok (Choose (PlainChoice n))) (Ok Done) past) (sym f) ((lawful, holds_new (residues n) (plain_sound n lawful) (more (Ok (Choose (PlainChoice n))) (Ok Done) past) bl long refl (λ i. refl)), tt, tt))
+    subst (λ (b : Answer). Leaves w (Ok (Choose (PlainChoice n))) b past) (sym e) (subst (λ (v : Console). Leaves v (Ok (Choose (PlainChoice n))) (Ok None) past) (sym f) ((lawful, holds_new (residues n) (plain_sound n lawful) (more (Ok (Choose (PlainChoice n))) (Ok None) past) bl long refl (λ i. refl)), tt, tt))
 chosen_leaves (SystemChoice p q r) w a past lawful e (s, made, bl, long, f) =
-    subst (λ (b : Answer). Leaves w (Ok (Choose (SystemChoice p q r))) b past) (sym e) (subst (λ (v : Console). Leaves v (Ok (Choose (SystemChoice p q r))) (Ok Done) past) (sym f) (holds_new (meant s) (sound s) (more (Ok (Choose (SystemChoice p q r))) (Ok Done) past) bl long refl (λ i. refl), tt, tt))
+    subst (λ (b : Answer). Leaves w (Ok (Choose (SystemChoice p q r))) b past) (sym e) (subst (λ (v : Console). Leaves v (Ok (Choose (SystemChoice p q r))) (Ok None) past) (sym f) (holds_new (meant s) (sound s) (more (Ok (Choose (SystemChoice p q r))) (Ok None) past) bl long refl (λ i. refl), tt, tt))
 chosen_leaves (SplitChoice n) w a past lawful e (bl, long, f) =
-    subst (λ (b : Answer). Leaves w (Ok (Choose (SplitChoice n))) b past) (sym e) (subst (λ (v : Console). Leaves v (Ok (Choose (SplitChoice n))) (Ok Done) past) (sym f) ((lawful, holds_new (split (residues n)) (split_sound n lawful) (more (Ok (Choose (SplitChoice n))) (Ok Done) past) bl long refl (λ i. refl)), tt, tt))
+    subst (λ (b : Answer). Leaves w (Ok (Choose (SplitChoice n))) b past) (sym e) (subst (λ (v : Console). Leaves v (Ok (Choose (SplitChoice n))) (Ok None) past) (sym f) ((lawful, holds_new (split (residues n)) (split_sound n lawful) (more (Ok (Choose (SplitChoice n))) (Ok None) past) bl long refl (λ i. refl)), tt, tt))
 
 -- a command on the window
 serves_leaves : (w w' : Console) (c : Command) (a : Answer) (past : List Typed) → Known w past → Serves w c a w' → Leaves w' (Ok c) a past

@@ -11,7 +11,6 @@ use Rattle.system.specs.declared.residues.System.{System as SystemOf}
 use Rattle.system.specs.Meant.{meant}
 use Rattle.states.specs.declared.State.{State}
 use Rattle.states.specs.declared.State.TheVariants.{Idle}
-use Rattle.states.specs.declared.Reply.TheVariants.{Done}
 use Rattle.states.specs.Step.{Pairs, Declined}
 use Rattle.command.specs.declared.kinds.Choice.{Choice}
 use Rattle.command.specs.declared.kinds.Choice.TheVariants.{Plain as PlainChoice, System as SystemChoice, Split as SplitChoice}
@@ -56,21 +55,21 @@ pub goes_all : {N : Type 0} (m : Meaning N) (ds : List Decoded) (before : List A
 goes_all m ds before st bl rs h past w held embeds ready = (held st bl, subst (λ (xs : List Decoded). Turns w xs rs (held st bl)) (take_all (length rs) ds past) (h w held embeds ready))
 
 -- a scheme is chosen
-ready_chosen : (w v : Console) (ds : List Decoded) (rs : List Answer) (c : Choice) (s : Chosen) → length rs < length ds → get_or ds (length rs) (Ok (Choose c)) ≡ Ok (Choose c) → Makes c s → Turns w (take (length rs) ds) rs v → ReadyFor w ds (rs ++ Ok Done ∷ []) s
+ready_chosen : (w v : Console) (ds : List Decoded) (rs : List Answer) (c : Choice) (s : Chosen) → length rs < length ds → get_or ds (length rs) (Ok (Choose c)) ≡ Ok (Choose c) → Makes c s → Turns w (take (length rs) ds) rs v → ReadyFor w ds (rs ++ Ok None ∷ []) s
 ready_chosen w v ds rs (PlainChoice n) (Plain p) low is (lawful, e) h =
-    λ start long. turns_next w v (plain p.modulus.n Idle start) ds rs (Ok (Choose (PlainChoice n))) (Ok Done) low is h (inl (lawful, refl, (start, long, ap (λ (k : ℕ). plain k Idle start) e)))
+    λ start long. turns_next w v (plain p.modulus.n Idle start) ds rs (Ok (Choose (PlainChoice n))) (Ok None) low is h (inl (lawful, refl, (start, long, ap (λ (k : ℕ). plain k Idle start) e)))
 ready_chosen w v ds rs (PlainChoice n) (System s) low is made h = absurd made
 ready_chosen w v ds rs (PlainChoice n) (Split p) low is made h = absurd made
 ready_chosen w v ds rs (SystemChoice p q r) (Plain x) low is made h = absurd made
 ready_chosen w v ds rs (SystemChoice p q r) (System s) low is made h =
-    λ start long. turns_next w v (system s Idle start) ds rs (Ok (Choose (SystemChoice p q r))) (Ok Done) low is h (inl (made.lawful, refl, (s, made, start, long, refl)))
+    λ start long. turns_next w v (system s Idle start) ds rs (Ok (Choose (SystemChoice p q r))) (Ok None) low is h (inl (made.lawful, refl, (s, made, start, long, refl)))
 ready_chosen w v ds rs (SystemChoice p q r) (Split x) low is made h = absurd made
 ready_chosen w v ds rs (SplitChoice n) (Plain p) low is made h = absurd made
 ready_chosen w v ds rs (SplitChoice n) (System s) low is made h = absurd made
 ready_chosen w v ds rs (SplitChoice n) (Split p) low is (lawful, e) h =
-    λ start long. turns_next w v (shared p.modulus.n Idle start) ds rs (Ok (Choose (SplitChoice n))) (Ok Done) low is h (inl (lawful, refl, (start, long, ap (λ (k : ℕ). shared k Idle start) e)))
+    λ start long. turns_next w v (shared p.modulus.n Idle start) ds rs (Ok (Choose (SplitChoice n))) (Ok None) low is h (inl (lawful, refl, (start, long, ap (λ (k : ℕ). shared k Idle start) e)))
 
-pub goes_chosen : {N : Type 0} (m : Meaning N) (ds : List Decoded) (before : List Answer) (st : State) (bl : Pairs N) (rs : List Answer) → Goes m ds before st bl rs → (i : ℕ) (d : Decoded) → i < length ds → length rs ≡ i → (s : Chosen) → (c : Choice) × (get_or ds i d ≡ Ok (Choose c)) × Makes c s → ServedFrom m ds before (rs ++ Ok Done ∷ []) (Some s)
+pub goes_chosen : {N : Type 0} (m : Meaning N) (ds : List Decoded) (before : List Answer) (st : State) (bl : Pairs N) (rs : List Answer) → Goes m ds before st bl rs → (i : ℕ) (d : Decoded) → i < length ds → length rs ≡ i → (s : Chosen) → (c : Choice) × (get_or ds i d ≡ Ok (Choose c)) × Makes c s → ServedFrom m ds before (rs ++ Ok None ∷ []) (Some s)
 goes_chosen m ds before st bl rs h i d low e s (c, is, made) w held embeds ready =
     ready_chosen w (held st bl) ds rs c s (next_low ds rs i low e) (subst (λ (x : Decoded). get_or ds (length rs) x ≡ x) is (next_is ds rs i d low e)) made (h w held embeds ready)
 
@@ -119,7 +118,7 @@ declined_choice d c x e (is, unlawful) = subst (λ (y : Decoded). Turn absent y 
 pub waits_more : (ds : List Decoded) (rs : List Answer) → Waits ds rs → (i : ℕ) (d : Decoded) → i < length ds → length rs ≡ i → (a : Answer) → Turn absent (get_or ds i d) a absent → Waits ds (rs ++ a ∷ [])
 waits_more ds rs h i d low e a t = turns_next absent absent absent ds rs (get_or ds i d) a (next_low ds rs i low e) (next_is ds rs i d low e) h t
 
-pub waits_chosen : (ds : List Decoded) (rs : List Answer) → Waits ds rs → (i : ℕ) (d : Decoded) → i < length ds → length rs ≡ i → (s : Chosen) → (c : Choice) × (get_or ds i d ≡ Ok (Choose c)) × Makes c s → Served absent ds (rs ++ Ok Done ∷ []) (Some s)
+pub waits_chosen : (ds : List Decoded) (rs : List Answer) → Waits ds rs → (i : ℕ) (d : Decoded) → i < length ds → length rs ≡ i → (s : Chosen) → (c : Choice) × (get_or ds i d ≡ Ok (Choose c)) × Makes c s → Served absent ds (rs ++ Ok None ∷ []) (Some s)
 waits_chosen ds rs h i d low e s (c, is, made) =
     ready_chosen absent absent ds rs c s (next_low ds rs i low e) (subst (λ (x : Decoded). get_or ds (length rs) x ≡ x) is (next_is ds rs i d low e)) made h
 

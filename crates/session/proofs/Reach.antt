@@ -14,7 +14,8 @@ use Rattle.lines.specs.Places.{share}
 use Rattle.lines.proofs.Sizes.{size2, size4}
 use Rattle.scheme.specs.Meaning.{Meaning, Sound}
 use Rattle.scheme.specs.Hidden.{StandsPair}
-use Rattle.stages.specs.Block.{well_formed, is_well_formed_at}
+use Rattle.stages.specs.Block.{is_well_formed_at}
+use Rattle.scheme.specs.Hidden.{well_formed}
 use Rattle.stages.specs.Stage.{entries}
 use Rattle.stages.proofs.Blocks.{entry_itself, both, sound_there}
 use Rattle.states.specs.declared.Kept.{Kept}
@@ -22,7 +23,6 @@ use Rattle.states.specs.declared.State.{State}
 use Rattle.states.specs.declared.State.TheVariants.{Idle, Filling, Running, Finished}
 use Rattle.states.specs.declared.Call.{Call}
 use Rattle.states.specs.declared.Call.TheVariants.{Plan as PlanCall, Load as LoadCall, Begin as BeginCall, Advance as AdvanceCall, Line as LineCall, Restart as RestartCall}
-use Rattle.states.specs.declared.Reply.TheVariants.{Done}
 use Rattle.states.specs.Step.{Pairs, unless, first, malformed, first_malformed_place, plan_declined, line_malformed, declined, stages_for, progress, Step, StepBy}
 use Rattle.states.specs.History.{Numbers, Event, Reached, plan_in, samples_in}
 use Rattle.right.proofs.Steps.{reached_tied}
@@ -200,7 +200,7 @@ module _ {N : Type 0} (m : Meaning N) (ok : Sound m) where
   fit_same : (st st' : State) (bl bl' : Pairs N) → Fit st bl → st' ≡ st → bl' ≡ bl → Fit st' bl'
   fit_same st st' bl bl' h e f = subst (λ (s : State). Fit s bl') (sym e) (subst (λ (b : Pairs N). Fit st b) (sym f) h)
 
-  accepted_met : (a : Answer) → a ≡ Ok Done → Reachable a
+  accepted_met : (a : Answer) → a ≡ Ok None → Reachable a
   accepted_met a e = subst Reachable (sym e) tt
 
   -- what one call leaves

@@ -12,7 +12,7 @@ use Rattle.states.specs.declared.State.{State}
 use Rattle.states.specs.declared.State.TheVariants.{Idle, Filling, Running, Finished}
 use Rattle.states.specs.declared.Call.{Call}
 use Rattle.states.specs.declared.Call.TheVariants.{Plan as PlanCall, Load as LoadCall, Begin as BeginCall, Advance as AdvanceCall, Line as LineCall, Restart as RestartCall}
-use Rattle.states.specs.declared.Reply.{Reply}
+use Rattle.states.specs.declared.Line.{Line as OpenedLine}
 use Rattle.states.specs.Step.{Pairs, StepBy, declined}
 use Rattle.command.specs.declared.kinds.Command.{Command}
 use Rattle.command.specs.declared.kinds.Command.TheVariants.{Choose, Plan, Load, Begin, Advance, Line, Restart}
@@ -20,7 +20,7 @@ use Rattle.session.specs.Session.{Decoded, Answer, Console, absent, plain, syste
 use Rattle.session.specs.Steady.{SameWindow, Chose, Steady}
 
 -- a refusal is no acceptance
-err_ok : {x : Refusal} {r : Reply} → ◌≡◌ {A = Answer} (Err x) (Ok r) → ⊥
+err_ok : {x : Refusal} {r : (Option OpenedLine)} → ◌≡◌ {A = Answer} (Err x) (Ok r) → ⊥
 err_ok e = let z : ◌≡◌ {A = ℕ} 0 1 = cc in omega arith
 
 same_itself : (w : Console) → SameWindow w w

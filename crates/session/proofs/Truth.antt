@@ -6,7 +6,7 @@ use Rattle.refusal.specs.declared.kinds.Refusal.TheVariants.{Size, SampleScale, 
 use Rattle.plan.specs.declared.method.Method.{Method}
 use Rattle.lines.specs.Laws.{Within, Samples}
 use Rattle.scheme.specs.Meaning.{Meaning, Sound}
-use Rattle.stages.specs.Block.{well_formed}
+use Rattle.scheme.specs.Hidden.{well_formed}
 use Rattle.stages.proofs.Blocks.{both}
 use Rattle.scheme.specs.Sealing.{SealsPair, means_pair}
 use Rattle.states.specs.declared.State.{State}
@@ -15,7 +15,6 @@ use Rattle.states.specs.declared.Kept.{Kept}
 use Rattle.states.specs.declared.Call.{Call}
 use Rattle.states.specs.declared.Call.TheVariants.{Plan as PlanCall, Load as LoadCall, Begin as BeginCall, Advance as AdvanceCall, Line as LineCall, Restart as RestartCall}
 use Rattle.states.specs.declared.Line.{Line as OpenedLine}
-use Rattle.states.specs.declared.Reply.TheVariants.{Done, Opened}
 use Rattle.states.specs.Step.{Pairs, Step, Declined}
 use Rattle.states.specs.History.{Numbers, Event, plan_after, plan_in, samples_after, samples_in, Reached, RightBy}
 use Rattle.right.proofs.Steps.{reached_tied}
@@ -119,32 +118,32 @@ module _ {N : Type 0} (m : Meaning N) (ok : Sound m) where
 
     leaves_plan : (k : Method) (size q1 q2 : ℕ) (a : Answer) (st' : State) (bl' : Pairs N) → Step m st bl (PlanCall k size q1 q2) a st' bl' → Leaves past (Ok (Plan k size q1 q2)) a st' bl'
     leaves_plan k size q1 q2 (Err x) st' bl' step = (leaves_kept (PlanCall k size q1 q2) tt (Ok (Plan k size q1 q2)) (Err x) st' bl' step (λ p. refl) (λ p. refl) (λ f i. refl) (λ f i. refl), tt, (fit_call (PlanCall k size q1 q2) tt (Err x) st' bl' step).1)
-    leaves_plan k size q1 q2 (Ok Done) st' bl' step = (holds_more past st bl h (PlanCall k size q1 q2) (Ok (Plan k size q1 q2)) (Ok Done) st' bl' step (λ p. refl) (λ f g e i. refl) (λ i z e. absurd (none_some e)) (fit_call (PlanCall k size q1 q2) tt (Ok Done) st' bl' step).0, tt, (fit_call (PlanCall k size q1 q2) tt (Ok Done) st' bl' step).1)
-    leaves_plan k size q1 q2 (Ok (Opened l)) st' bl' step = absurd (right_call (PlanCall k size q1 q2) (Ok (Opened l)) st' bl' step)
+    leaves_plan k size q1 q2 (Ok None) st' bl' step = (holds_more past st bl h (PlanCall k size q1 q2) (Ok (Plan k size q1 q2)) (Ok None) st' bl' step (λ p. refl) (λ f g e i. refl) (λ i z e. absurd (none_some e)) (fit_call (PlanCall k size q1 q2) tt (Ok None) st' bl' step).0, tt, (fit_call (PlanCall k size q1 q2) tt (Ok None) st' bl' step).1)
+    leaves_plan k size q1 q2 (Ok (Some l)) st' bl' step = absurd (right_call (PlanCall k size q1 q2) (Ok (Some l)) st' bl' step)
 
     leaves_begin : (a : Answer) (st' : State) (bl' : Pairs N) → Step m st bl BeginCall a st' bl' → Leaves past (Ok Begin) a st' bl'
     leaves_begin (Err x) st' bl' step = (leaves_kept BeginCall tt (Ok Begin) (Err x) st' bl' step (λ p. refl) (λ p. refl) (λ f i. refl) (λ f i. refl), tt, (fit_call BeginCall tt (Err x) st' bl' step).1)
-    leaves_begin (Ok Done) st' bl' step = (leaves_kept BeginCall tt (Ok Begin) (Ok Done) st' bl' step (λ p. refl) (λ p. refl) (λ f i. refl) (λ f i. refl), tt, (fit_call BeginCall tt (Ok Done) st' bl' step).1)
-    leaves_begin (Ok (Opened l)) st' bl' step = absurd (right_call BeginCall (Ok (Opened l)) st' bl' step)
+    leaves_begin (Ok None) st' bl' step = (leaves_kept BeginCall tt (Ok Begin) (Ok None) st' bl' step (λ p. refl) (λ p. refl) (λ f i. refl) (λ f i. refl), tt, (fit_call BeginCall tt (Ok None) st' bl' step).1)
+    leaves_begin (Ok (Some l)) st' bl' step = absurd (right_call BeginCall (Ok (Some l)) st' bl' step)
 
     leaves_advance : (a : Answer) (st' : State) (bl' : Pairs N) → Step m st bl AdvanceCall a st' bl' → Leaves past (Ok Advance) a st' bl'
     leaves_advance (Err x) st' bl' step = (leaves_kept AdvanceCall tt (Ok Advance) (Err x) st' bl' step (λ p. refl) (λ p. refl) (λ f i. refl) (λ f i. refl), tt, (fit_call AdvanceCall tt (Err x) st' bl' step).1)
-    leaves_advance (Ok Done) st' bl' step = (leaves_kept AdvanceCall tt (Ok Advance) (Ok Done) st' bl' step (λ p. refl) (λ p. refl) (λ f i. refl) (λ f i. refl), tt, (fit_call AdvanceCall tt (Ok Done) st' bl' step).1)
-    leaves_advance (Ok (Opened l)) st' bl' step = absurd (right_call AdvanceCall (Ok (Opened l)) st' bl' step)
+    leaves_advance (Ok None) st' bl' step = (leaves_kept AdvanceCall tt (Ok Advance) (Ok None) st' bl' step (λ p. refl) (λ p. refl) (λ f i. refl) (λ f i. refl), tt, (fit_call AdvanceCall tt (Ok None) st' bl' step).1)
+    leaves_advance (Ok (Some l)) st' bl' step = absurd (right_call AdvanceCall (Ok (Some l)) st' bl' step)
 
     leaves_line : (k : ℕ) (a : Answer) (st' : State) (bl' : Pairs N) → Step m st bl (LineCall k) a st' bl' → Leaves past (Ok (Line k)) a st' bl'
     leaves_line k (Err x) st' bl' step = (leaves_kept (LineCall k) tt (Ok (Line k)) (Err x) st' bl' step (λ p. refl) (λ p. refl) (λ f i. refl) (λ f i. refl), tt, (fit_call (LineCall k) tt (Err x) st' bl' step).1)
-    leaves_line k (Ok Done) st' bl' step = (leaves_kept (LineCall k) tt (Ok (Line k)) (Ok Done) st' bl' step (λ p. refl) (λ p. refl) (λ f i. refl) (λ f i. refl), tt, (fit_call (LineCall k) tt (Ok Done) st' bl' step).1)
-    leaves_line k (Ok (Opened l)) st' bl' step = (
-      leaves_kept (LineCall k) tt (Ok (Line k)) (Ok (Opened l)) st' bl' step (λ p. refl) (λ p. refl) (λ f i. refl) (λ f i. refl),
-      right_typed past st bl h k l (right_call (LineCall k) (Ok (Opened l)) st' bl' step),
+    leaves_line k (Ok None) st' bl' step = (leaves_kept (LineCall k) tt (Ok (Line k)) (Ok None) st' bl' step (λ p. refl) (λ p. refl) (λ f i. refl) (λ f i. refl), tt, (fit_call (LineCall k) tt (Ok None) st' bl' step).1)
+    leaves_line k (Ok (Some l)) st' bl' step = (
+      leaves_kept (LineCall k) tt (Ok (Line k)) (Ok (Some l)) st' bl' step (λ p. refl) (λ p. refl) (λ f i. refl) (λ f i. refl),
+      right_typed past st bl h k l (right_call (LineCall k) (Ok (Some l)) st' bl' step),
       tt,
     )
 
     leaves_restart : (a : Answer) (st' : State) (bl' : Pairs N) → Step m st bl RestartCall a st' bl' → Leaves past (Ok Restart) a st' bl'
     leaves_restart (Err x) st' bl' step = (leaves_kept RestartCall tt (Ok Restart) (Err x) st' bl' step (λ p. refl) (λ p. refl) (λ f i. refl) (λ f i. refl), tt, (fit_call RestartCall tt (Err x) st' bl' step).1)
-    leaves_restart (Ok Done) st' bl' step = (holds_more past st bl h RestartCall (Ok Restart) (Ok Done) st' bl' step (λ p. refl) (λ f g e i. refl) (λ i z e. absurd (none_some e)) (fit_call RestartCall tt (Ok Done) st' bl' step).0, tt, (fit_call RestartCall tt (Ok Done) st' bl' step).1)
-    leaves_restart (Ok (Opened l)) st' bl' step = absurd (right_call RestartCall (Ok (Opened l)) st' bl' step)
+    leaves_restart (Ok None) st' bl' step = (holds_more past st bl h RestartCall (Ok Restart) (Ok None) st' bl' step (λ p. refl) (λ f g e i. refl) (λ i z e. absurd (none_some e)) (fit_call RestartCall tt (Ok None) st' bl' step).0, tt, (fit_call RestartCall tt (Ok None) st' bl' step).1)
+    leaves_restart (Ok (Some l)) st' bl' step = absurd (right_call RestartCall (Ok (Some l)) st' bl' step)
 
     -- a sealed sample is loaded: its pair means the sample as typed
     same_load : (n : ℕ) (z : Complex) (x : N × N) → means_pair m x ≡ z → (f g : ℕ → Option Complex) → ((i : ℕ) → f i ≡ g i) → (i : ℕ) → cond (eqb i n) (Some (means_pair m x)) (f i) ≡ cond (eqb i n) (Some z) (g i)
@@ -156,12 +155,12 @@ module _ {N : Type 0} (m : Meaning N) (ok : Sound m) where
 
     leaves_sealed : (n : ℕ) (z : Complex) (words : ℕ × ℕ) (x : N × N) → well_formed m x ≡ true → means_pair m x ≡ z → InScale (plan_typed past) z → (a : Answer) (st' : State) (bl' : Pairs N) → Step m st bl (LoadCall n x) a st' bl' → Leaves past (Ok (Load n z words)) a st' bl'
     leaves_sealed n z words x formed e scale (Err y) st' bl' step = (leaves_kept (LoadCall n x) formed (Ok (Load n z words)) (Err y) st' bl' step (λ p. refl) (λ p. refl) (λ f i. refl) (λ f i. refl), tt, (fit_call (LoadCall n x) formed (Err y) st' bl' step).1)
-    leaves_sealed n z words x formed e scale (Ok Done) st' bl' step = (
-      holds_more past st bl h (LoadCall n x) (Ok (Load n z words)) (Ok Done) st' bl' step (λ p. refl) (same_load n z x e) (λ i y is. within_load (eqb i n) y z (samples_typed past i) scale (h.within i y) is) (fit_call (LoadCall n x) formed (Ok Done) st' bl' step).0,
+    leaves_sealed n z words x formed e scale (Ok None) st' bl' step = (
+      holds_more past st bl h (LoadCall n x) (Ok (Load n z words)) (Ok None) st' bl' step (λ p. refl) (same_load n z x e) (λ i y is. within_load (eqb i n) y z (samples_typed past i) scale (h.within i y) is) (fit_call (LoadCall n x) formed (Ok None) st' bl' step).0,
       tt,
       tt,
     )
-    leaves_sealed n z words x formed e scale (Ok (Opened l)) st' bl' step = absurd (right_call (LoadCall n x) (Ok (Opened l)) st' bl' step)
+    leaves_sealed n z words x formed e scale (Ok (Some l)) st' bl' step = absurd (right_call (LoadCall n x) (Ok (Some l)) st' bl' step)
 
     leaves_seal : (n : ℕ) (z : Complex) (words : ℕ × ℕ) (limit : ℕ) → (Within limit z → InScale (plan_typed past) z) → (r : Result (N × N) Refusal) → SealsPair m limit z words r → (a : Answer) (st' : State) (bl' : Pairs N) → LoadsSealed m st bl n r a st' bl' → Leaves past (Ok (Load n z words)) a st' bl'
     leaves_seal n z words limit scale (Ok x) sealed a st' bl' step =

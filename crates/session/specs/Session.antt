@@ -1,5 +1,5 @@
 -- A session of the console: what each line does, by the scheme's and the window's calls.
-use Rattle.std.specs.Prelude.{◌≡◌, ℕ, true, cond, ◌&&◌, ◌⊎◌, List, [], ◌∷◌, length, Ok, Err, Result, nat_le, nat_lt}
+use Rattle.std.specs.Prelude.{◌≡◌, ℕ, true, cond, ◌&&◌, ◌⊎◌, List, [], ◌∷◌, length, Ok, Err, Result, nat_le, nat_lt, None, Option}
 use Rattle.integers.specs.declared.Complex.{Complex}
 use Rattle.integers.specs.Modulus.{is_modulus}
 use Rattle.refusal.specs.declared.kinds.Refusal.{Refusal}
@@ -17,8 +17,7 @@ use Rattle.system.specs.Meant.{meant}
 use Rattle.states.specs.declared.State.{State}
 use Rattle.states.specs.declared.State.TheVariants.{Idle, Filling, Running, Finished}
 use Rattle.states.specs.declared.Call.TheVariants.{Plan as PlanCall, Load as LoadCall, Begin as BeginCall, Advance as AdvanceCall, Line as LineCall, Restart as RestartCall}
-use Rattle.states.specs.declared.Reply.{Reply}
-use Rattle.states.specs.declared.Reply.TheVariants.{Done}
+use Rattle.states.specs.declared.Line.{Line as OpenedLine}
 use Rattle.states.specs.Step.{Pairs, Step, Declined}
 use Rattle.command.specs.declared.kinds.Choice.{Choice}
 use Rattle.command.specs.declared.kinds.Choice.TheVariants.{Plain as PlainChoice, System as SystemChoice, Split as SplitChoice}
@@ -31,7 +30,7 @@ Decoded = Result Command Refusal
 
 -- what a command is answered
 abbrev pub Answer : Type 0
-Answer = Result Reply Refusal
+Answer = Result (Option OpenedLine) Refusal
 
 -- what the console has: no window yet, or a scheme and its window, by state and block
 pub data Console : Type 0 where
@@ -54,7 +53,7 @@ Opens (SplitChoice n) w = (bl : Pairs (Halves ℕ)) × (length bl ≡ 256) × (w
 
 -- Choosing a scheme: accepted where its moduli are lawful, and then a new window takes the place of what was there; else declined, and nothing changes.
 abbrev pub Chooses : Choice → Console → Answer → Console → Type 0
-Chooses c w a w' = (LawfulChoice c × (a ≡ Ok Done) × Opens c w') ⊎ ((LawfulChoice c → ⊥) × (a ≡ Err Modulus) × (w' ≡ w))
+Chooses c w a w' = (LawfulChoice c × (a ≡ Ok None) × Opens c w') ⊎ ((LawfulChoice c → ⊥) × (a ≡ Err Modulus) × (w' ≡ w))
 
 -- the limit under which a sample is sealed before it is loaded as sample n: the sample scale of the plan in force; or why it cannot be loaded, whatever it is
 abbrev pub limit_in : State → ℕ → Result ℕ Refusal

@@ -1,7 +1,6 @@
 -- What a line of the console leaves as it was.
-use Rattle.std.specs.Prelude.{◌≡◌, ◌⊎◌, Ok, Err}
+use Rattle.std.specs.Prelude.{◌≡◌, ◌⊎◌, Ok, Err, None}
 use Rattle.refusal.specs.declared.kinds.Refusal.{Refusal}
-use Rattle.states.specs.declared.Reply.TheVariants.{Done}
 use Rattle.command.specs.declared.kinds.Choice.{Choice}
 use Rattle.command.specs.declared.kinds.Command.TheVariants.{Choose}
 use Rattle.session.specs.Session.{Decoded, Answer, Console, absent, plain, system, shared, Turn}
@@ -27,7 +26,7 @@ SameWindow (shared n st bl) (shared k st' bl') = n ≡ k
 
 -- a scheme was chosen, and the choice accepted
 abbrev pub Chose : Decoded → Answer → Type 0
-Chose d a = (a ≡ Ok Done) × ((c : Choice) × (d ≡ Ok (Choose c)))
+Chose d a = (a ≡ Ok None) × ((c : Choice) × (d ≡ Ok (Choose c)))
 
 -- Nothing but an accepted choice of a scheme replaces a window; and a declined line changes nothing.
 pub record Steady : Type 0 where

@@ -4,7 +4,6 @@ use Rattle.integers.specs.declared.Complex.{Complex}
 use Rattle.refusal.specs.declared.kinds.Refusal.TheVariants.{Size, SampleScale, TwiddleScale, Block, Narrow, Moment, Place, Strange, Malformed, Short, Large, Mask, Modulus, Garbled, Long}
 use Rattle.lines.specs.Laws.{Samples}
 use Rattle.states.specs.declared.Line.{Line as OpenedLine}
-use Rattle.states.specs.declared.Reply.TheVariants.{Done, Opened}
 use Rattle.states.specs.History.{Numbers, RightFor}
 use Rattle.command.specs.declared.kinds.Command.TheVariants.{Choose, Plan, Load, Begin, Advance, Line, Restart}
 use Rattle.session.specs.Session.{Decoded, Answer}
@@ -62,15 +61,15 @@ pub record RightTyped (past : List Typed) (k : ℕ) (l : OpenedLine) : Type 0 wh
 -- an answer is right after what was typed before: a line is opened by a line command alone, and is right by what was typed
 abbrev pub RightAnswer : List Typed → Answer → Decoded → Type 0
 RightAnswer past (Err x) d = Unit {0}
-RightAnswer past (Ok Done) d = Unit {0}
-RightAnswer past (Ok (Opened l)) (Err x) = ⊥
-RightAnswer past (Ok (Opened l)) (Ok (Choose c)) = ⊥
-RightAnswer past (Ok (Opened l)) (Ok (Plan k size q1 q2)) = ⊥
-RightAnswer past (Ok (Opened l)) (Ok (Load n z words)) = ⊥
-RightAnswer past (Ok (Opened l)) (Ok Begin) = ⊥
-RightAnswer past (Ok (Opened l)) (Ok Advance) = ⊥
-RightAnswer past (Ok (Opened l)) (Ok (Line k)) = RightTyped past k l
-RightAnswer past (Ok (Opened l)) (Ok Restart) = ⊥
+RightAnswer past (Ok None) d = Unit {0}
+RightAnswer past (Ok (Some l)) (Err x) = ⊥
+RightAnswer past (Ok (Some l)) (Ok (Choose c)) = ⊥
+RightAnswer past (Ok (Some l)) (Ok (Plan k size q1 q2)) = ⊥
+RightAnswer past (Ok (Some l)) (Ok (Load n z words)) = ⊥
+RightAnswer past (Ok (Some l)) (Ok Begin) = ⊥
+RightAnswer past (Ok (Some l)) (Ok Advance) = ⊥
+RightAnswer past (Ok (Some l)) (Ok (Line k)) = RightTyped past k l
+RightAnswer past (Ok (Some l)) (Ok Restart) = ⊥
 
 -- every line has one answer, and each is right by what was typed before it
 abbrev pub AllRight : List Typed → List Decoded → List Answer → Type 0

@@ -7,7 +7,7 @@ ghost use Rattle.session.specs.Steady.{Steady};
 use crate::serving::{serve_absent, serve_chosen};
 use command::{Command, decode_all, transcript};
 use refusal::Refusal;
-use states::Reply;
+use states::Answer;
 use std::alloc::{AllocError, Global};
 
 // The most bytes of input that are served.
@@ -17,7 +17,7 @@ pub const LIMIT: usize = 65_536;
 pub fn answer_lines(
     lines: &[Result<Command, Refusal>],
     heap: Global,
-) -> Result<Vec<Result<Reply, Refusal>>, AllocError>
+) -> Result<Vec<Answer>, AllocError>
     ensures { IfOk result (λ v. SessionOf lines.now v.items) }
 {
     let mut answers = Vec::new(heap);
@@ -41,10 +41,7 @@ pub fn reply(input: &[u8], heap: Global) -> Result<String, AllocError>
     transcript(answers.as_slice(), heap)
 }
 
-// Nothing but an accepted choice of a scheme replaces a window, and a declined line changes nothing. The answer says nothing; the
-// contract is the theorem.
-pub fn only_choices_replace_windows() -> u8
+// Nothing but an accepted choice of a scheme replaces a window, and a declined line changes nothing.
+pub fn only_choices_replace_windows()
     ensures { Steady }
-{
-    0
-}
+{}

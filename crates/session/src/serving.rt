@@ -11,7 +11,7 @@ use command::Command;
 use refusal::Refusal;
 use scheme::Scheme;
 use split::Split;
-use states::Reply;
+use states::Answer;
 use std::alloc::{AllocError, Global};
 use window::Window;
 
@@ -20,7 +20,7 @@ fn serve<S: Scheme>(
     s: &mut S,
     block: &mut [(S::Number, S::Number)],
     lines: &[Result<Command, Refusal>],
-    answers: &mut Vec<Result<Reply, Refusal>>,
+    answers: &mut Vec<Answer>,
 ) -> Result<Option<Chosen>, AllocError>
     requires long { length block.old ≡ 256 }
     requires few { vec_len answers.old ≤ length lines.now }
@@ -32,7 +32,7 @@ fn serve<S: Scheme>(
         match turn(&mut window, s, lines[at]) {
             Turned::Answered(answer) => answers.push(answer)?,
             Turned::Replaced(scheme) => {
-                answers.push(Ok(Reply::Done))?;
+                answers.push(Ok(None))?;
                 return Ok(Some(scheme));
             }
         }
@@ -57,7 +57,7 @@ fn new_block<S: Scheme>(s: &mut S, heap: Global) -> Result<Vec<(S::Number, S::Nu
 fn serve_new<S: Scheme>(
     s: &mut S,
     lines: &[Result<Command, Refusal>],
-    answers: &mut Vec<Result<Reply, Refusal>>,
+    answers: &mut Vec<Answer>,
     heap: Global,
 ) -> Result<Option<Chosen>, AllocError>
     requires few { vec_len answers.old ≤ length lines.now }
@@ -72,7 +72,7 @@ fn serve_new<S: Scheme>(
 pub(crate) fn serve_chosen(
     scheme: Chosen,
     lines: &[Result<Command, Refusal>],
-    answers: &mut Vec<Result<Reply, Refusal>>,
+    answers: &mut Vec<Answer>,
     heap: Global,
 ) -> Result<Option<Chosen>, AllocError>
     requires few { vec_len answers.old ≤ length lines.now }
@@ -112,7 +112,7 @@ fn turn_absent(line: Result<Command, Refusal>) -> Turned
 // Serves the lines before the first scheme.
 pub(crate) fn serve_absent(
     lines: &[Result<Command, Refusal>],
-    answers: &mut Vec<Result<Reply, Refusal>>,
+    answers: &mut Vec<Answer>,
 ) -> Result<Option<Chosen>, AllocError>
     requires none { answers.old.items ≡ [] }
     ensures served { IfOk result (λ next. Served absent lines.now answers.new.items next) }
@@ -122,7 +122,7 @@ pub(crate) fn serve_absent(
         match turn_absent(*line) {
             Turned::Answered(answer) => answers.push(answer)?,
             Turned::Replaced(scheme) => {
-                answers.push(Ok(Reply::Done))?;
+                answers.push(Ok(None))?;
                 return Ok(Some(scheme));
             }
         }

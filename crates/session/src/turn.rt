@@ -1,11 +1,11 @@
 // What one line comes to.
 use crate::schemes::Chosen;
 use refusal::Refusal;
-use states::Reply;
+use states::Answer;
 
 // An answer, or another scheme that was chosen.
 #[derive(Clone, Copy)]
 pub enum Turned {
-    Answered(Result<Reply, Refusal>),
+    Answered(Answer),
     Replaced(Chosen),
 }

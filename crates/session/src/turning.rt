@@ -10,7 +10,7 @@ use command::Command;
 use integers::Complex;
 use refusal::Refusal;
 use scheme::{Scheme, pairs};
-use states::{Reply, State};
+use states::{Answer, State};
 use window::Window;
 
 // The limit for sample n: the sample scale of the plan in force. Refuses with Moment where the window is not filling, else with Place.
@@ -35,7 +35,7 @@ fn load<S: Scheme>(
     n: usize,
     sample: Complex,
     words: (u64, u64),
-) -> Result<Reply, Refusal>
+) -> Answer
     ensures loads { LoadsWithin (S.meaning s.old) window.old.state window.old.block.now n sample words (limit_in window.old.state n) result window.new.state window.new.block.now }
     ensures frame { S.meaning s.new ≡ S.meaning s.old }
 {

@@ -4,7 +4,8 @@ use borrow.Author.Tests.{clash}
 use Rattle.integers.specs.Complex.{complex}
 use Rattle.scheme.specs.Meaning.{Meaning, View}
 use Rattle.scheme.specs.Hidden.{read_pair}
-use Rattle.stages.specs.Block.{well_formed, is_well_formed_at, read_at}
+use Rattle.stages.specs.Block.{is_well_formed_at, read_at}
+use Rattle.scheme.specs.Hidden.{well_formed}
 
 module _ {A B : Type 0} where
   -- what is made of the entry at a place

@@ -11,7 +11,8 @@ use Rattle.scheme.proofs.Standing.{pair_itself}
 use Rattle.lines.specs.Lines.{mix}
 use Rattle.lines.specs.Places.{Staged, Standing, place}
 use Rattle.lines.proofs.Places.{stage_made}
-use Rattle.stages.specs.Block.{well_formed, is_well_formed_at, read_at, StandsAt}
+use Rattle.stages.specs.Block.{is_well_formed_at, read_at, StandsAt}
+use Rattle.scheme.specs.Hidden.{well_formed}
 use Rattle.stages.specs.Search.{Found}
 use Rattle.stages.specs.Stage.{entries, Making, Shaped, stages_in, Stage}
 use Rattle.stages.proofs.Blocks.{entry_itself, both, both_true, sound_there, read_there}

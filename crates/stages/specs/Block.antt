@@ -1,13 +1,9 @@
 -- Blocks of hidden pairs, place by place.
-use Rattle.std.specs.Prelude.{ℕ, ◌<◌, Bool, false, ◌&&◌, List, map, length, pos, slice_index_or}
+use Rattle.std.specs.Prelude.{ℕ, ◌<◌, Bool, false, List, map, length, pos, slice_index_or}
 use Rattle.integers.specs.declared.Complex.{Complex}
 use Rattle.integers.specs.Complex.{complex}
 use Rattle.scheme.specs.Meaning.{Meaning, View}
-use Rattle.scheme.specs.Hidden.{StandsPair, read_pair}
-
--- both components of a pair are well formed
-abbrev pub well_formed : {Number : Type 0} → Meaning Number → Number × Number → Bool
-well_formed m p = m.wf p.0 && m.wf p.1
+use Rattle.scheme.specs.Hidden.{StandsPair, read_pair, well_formed}
 
 -- place i of the block is there and holds a well-formed pair
 unfoldable pub is_well_formed_at : {Number : Type 0} → Meaning Number → List (Number × Number) → ℕ → Bool

@@ -15,14 +15,12 @@ use Rattle.states.specs.declared.State.TheVariants.{Idle}
 use Rattle.states.specs.declared.Call.{Call}
 use Rattle.states.specs.declared.Call.TheVariants.{Plan as PlanCall, Load, Begin, Advance, Line as LineCall, Restart}
 use Rattle.states.specs.declared.Line.{Line}
-use Rattle.states.specs.declared.Reply.{Reply}
-use Rattle.states.specs.declared.Reply.TheVariants.{Opened}
 use Rattle.states.specs.Step.{Pairs, Step}
 
 -- a call and what it answered
 pub record Event (N : Type 0) : Type 0 where
   pub call : Call N
-  pub answer : Result Reply Refusal
+  pub answer : Result (Option Line) Refusal
 
 -- the numbers of a plan call
 pub record Numbers : Type 0 where
@@ -32,7 +30,7 @@ pub record Numbers : Type 0 where
   pub twiddle : ℕ
 
 -- the plan in force after one more call: an accepted plan call puts its own in force, nothing else does
-abbrev pub plan_after : {N : Type 0} → Result Reply Refusal → Call N → Option Numbers → Option Numbers
+abbrev pub plan_after : {N : Type 0} → Result (Option Line) Refusal → Call N → Option Numbers → Option Numbers
 plan_after (Err x) c before = before
 plan_after (Ok r) (PlanCall k size q1 q2) before = Some (record { method = k; size = size; sample = q1; twiddle = q2 })
 plan_after (Ok r) (Load n x) before = before
@@ -47,7 +45,7 @@ plan_in [] = None
 plan_in (e ∷ past) = plan_after e.answer e.call (plan_in past)
 
 -- the samples in force after one more call: an accepted load of n brings what its pair means, an accepted plan or restart takes all away
-abbrev pub samples_after : {N : Type 0} → Meaning N → Result Reply Refusal → Call N → (ℕ → Option Complex) → ℕ → Option Complex
+abbrev pub samples_after : {N : Type 0} → Meaning N → Result (Option Line) Refusal → Call N → (ℕ → Option Complex) → ℕ → Option Complex
 samples_after m (Err x) c before n = before n
 samples_after m (Ok r) (PlanCall k size q1 q2) before n = None
 samples_after m (Ok r) (Load i x) before n = cond (n == i) (Some (means_pair m x)) (before n)
@@ -86,4 +84,4 @@ pub record RightBy {N : Type 0} (m : Meaning N) (past : List (Event N)) (k : ℕ
 
 -- Opened lines are right: under every meaning of a scheme, after every list of calls on a new window, over any block, whatever a line call then opens.
 abbrev pub OpenedLinesAreRight : Type 0 → Type 0
-OpenedLinesAreRight N = (m : Meaning N) → Sound m → (start : Pairs N) (past : List (Event N)) (st : State) (bl : Pairs N) → Reached m start past st bl → (k : ℕ) (l : Line) (st' : State) (bl' : Pairs N) → Step m st bl (LineCall k) (Ok (Opened l)) st' bl' → RightBy m past k l
+OpenedLinesAreRight N = (m : Meaning N) → Sound m → (start : Pairs N) (past : List (Event N)) (st : State) (bl : Pairs N) → Reached m start past st bl → (k : ℕ) (l : Line) (st' : State) (bl' : Pairs N) → Step m st bl (LineCall k) (Ok (Some l)) st' bl' → RightBy m past k l

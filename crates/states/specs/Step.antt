@@ -14,7 +14,8 @@ use Rattle.lines.specs.Places.{place_of, Staged}
 use Rattle.lines.specs.Laws.{meant}
 use Rattle.scheme.specs.Meaning.{Meaning, View}
 use Rattle.scheme.specs.Hidden.{StandsPair}
-use Rattle.stages.specs.Block.{well_formed, is_well_formed_at, read_at}
+use Rattle.stages.specs.Block.{is_well_formed_at, read_at}
+use Rattle.scheme.specs.Hidden.{well_formed}
 use Rattle.stages.specs.Stage.{entries}
 use Rattle.states.specs.declared.Kept.{Kept}
 use Rattle.states.specs.declared.State.{State}
@@ -22,8 +23,6 @@ use Rattle.states.specs.declared.State.TheVariants.{Idle, Filling, Running, Fini
 use Rattle.states.specs.declared.Call.{Call}
 use Rattle.states.specs.declared.Call.TheVariants.{Plan as PlanCall, Load, Begin, Advance, Line as LineCall, Restart}
 use Rattle.states.specs.declared.Line.{Line}
-use Rattle.states.specs.declared.Reply.{Reply}
-use Rattle.states.specs.declared.Reply.TheVariants.{Done, Opened}
 
 -- a block of hidden pairs, real part first
 abbrev pub Pairs : Type 0 → Type 0
@@ -112,31 +111,31 @@ abbrev pub stated : {N : Type 0} → Meaning N → Plan → ℕ → Complex → 
 stated m p k z = record { index = k; re = (meant m.modulus z).re; im = (meant m.modulus z).im; scale = (meaning_of p).scale; distance = (meaning_of p).distance }
 
 -- the answer, the state and the block after
-pub record Becomes {N : Type 0} (reply : Reply) (st : State) (bl : Pairs N) (a : Result Reply Refusal) (st' : State) (bl' : Pairs N) : Type 0 where
+pub record Becomes {N : Type 0} (reply : Option Line) (st : State) (bl : Pairs N) (a : Result (Option Line) Refusal) (st' : State) (bl' : Pairs N) : Type 0 where
   pub answer : a ≡ Ok reply
   pub after : st' ≡ st
   pub holds : bl' ≡ bl
 
 -- an accepted plan: the plan of these numbers is kept with the scheme's modulus, and no sample is loaded
-pub record Planned {N : Type 0} (m : Meaning N) (bl : Pairs N) (k : Method) (size q1 q2 : ℕ) (a : Result Reply Refusal) (st : State) (bl' : Pairs N) : Type 0 where
+pub record Planned {N : Type 0} (m : Meaning N) (bl : Pairs N) (k : Method) (size q1 q2 : ℕ) (a : Result (Option Line) Refusal) (st : State) (bl' : Pairs N) : Type 0 where
   pub plan : Plan
   pub has : Has plan k size q1 q2
-  pub becomes : Becomes Done (Filling (record { plan = plan; modulus = m.modulus }) 0) bl a st bl'
+  pub becomes : Becomes None (Filling (record { plan = plan; modulus = m.modulus }) 0) bl a st bl'
 
 -- an accepted advance
-pub record Advanced {N : Type 0} (m : Meaning N) (kept : Kept) (t : ℕ) (bl : Pairs N) (a : Result Reply Refusal) (st : State) (bl' : Pairs N) : Type 0 where
+pub record Advanced {N : Type 0} (m : Meaning N) (kept : Kept) (t : ℕ) (bl : Pairs N) (a : Result (Option Line) Refusal) (st : State) (bl' : Pairs N) : Type 0 where
   pub stage : StageDone m kept.plan t bl bl'
-  pub becomes : Becomes Done (progress kept (suc t)) bl' a st bl'
+  pub becomes : Becomes None (progress kept (suc t)) bl' a st bl'
 
 -- what an accepted call does; in the states in which the call is always declined nothing is accepted
-abbrev pub Accepted : {N : Type 0} → Meaning N → State → Pairs N → Call N → Result Reply Refusal → State → Pairs N → Type 0
+abbrev pub Accepted : {N : Type 0} → Meaning N → State → Pairs N → Call N → Result (Option Line) Refusal → State → Pairs N → Type 0
 Accepted m st bl (PlanCall k size q1 q2) a st' bl' = Planned m bl k size q1 q2 a st' bl'
 Accepted m Idle bl (Load n x) a st' bl' = ⊥
-Accepted m (Filling kept count) bl (Load n x) a st' bl' = Becomes Done (Filling kept (cond (n == count) (suc count) count)) (slice_set bl (place_of kept.plan.method kept.plan.size n) x) a st' bl'
+Accepted m (Filling kept count) bl (Load n x) a st' bl' = Becomes None (Filling kept (cond (n == count) (suc count) count)) (slice_set bl (place_of kept.plan.method kept.plan.size n) x) a st' bl'
 Accepted m (Running kept t) bl (Load n x) a st' bl' = ⊥
 Accepted m (Finished kept) bl (Load n x) a st' bl' = ⊥
 Accepted m Idle bl Begin a st' bl' = ⊥
-Accepted m (Filling kept count) bl Begin a st' bl' = Becomes Done (progress kept 0) bl a st' bl'
+Accepted m (Filling kept count) bl Begin a st' bl' = Becomes None (progress kept 0) bl a st' bl'
 Accepted m (Running kept t) bl Begin a st' bl' = ⊥
 Accepted m (Finished kept) bl Begin a st' bl' = ⊥
 Accepted m Idle bl Advance a st' bl' = ⊥
@@ -146,25 +145,25 @@ Accepted m (Finished kept) bl Advance a st' bl' = ⊥
 Accepted m Idle bl (LineCall k) a st' bl' = ⊥
 Accepted m (Filling kept count) bl (LineCall k) a st' bl' = ⊥
 Accepted m (Running kept t) bl (LineCall k) a st' bl' = ⊥
-Accepted m (Finished kept) bl (LineCall k) a st' bl' = Becomes (Opened (stated m kept.plan k (line_read m kept.plan kept.plan.method bl k))) (Finished kept) bl a st' bl'
+Accepted m (Finished kept) bl (LineCall k) a st' bl' = Becomes (Some (stated m kept.plan k (line_read m kept.plan kept.plan.method bl k))) (Finished kept) bl a st' bl'
 Accepted m Idle bl Restart a st' bl' = ⊥
-Accepted m (Filling kept count) bl Restart a st' bl' = Becomes Done (Filling kept 0) bl a st' bl'
-Accepted m (Running kept t) bl Restart a st' bl' = Becomes Done (Filling kept 0) bl a st' bl'
-Accepted m (Finished kept) bl Restart a st' bl' = Becomes Done (Filling kept 0) bl a st' bl'
+Accepted m (Filling kept count) bl Restart a st' bl' = Becomes None (Filling kept 0) bl a st' bl'
+Accepted m (Running kept t) bl Restart a st' bl' = Becomes None (Filling kept 0) bl a st' bl'
+Accepted m (Finished kept) bl Restart a st' bl' = Becomes None (Filling kept 0) bl a st' bl'
 
 -- a declined call answers its refusal and changes nothing
-pub record Declined {N : Type 0} (x : Refusal) (st : State) (bl : Pairs N) (a : Result Reply Refusal) (st' : State) (bl' : Pairs N) : Type 0 where
+pub record Declined {N : Type 0} (x : Refusal) (st : State) (bl : Pairs N) (a : Result (Option Line) Refusal) (st' : State) (bl' : Pairs N) : Type 0 where
   pub answer : a ≡ Err x
   pub after : st' ≡ st
   pub holds : bl' ≡ bl
 
 -- declined by the refusal, or accepted where there is none
-abbrev pub StepBy : {N : Type 0} → Option Refusal → Meaning N → State → Pairs N → Call N → Result Reply Refusal → State → Pairs N → Type 0
+abbrev pub StepBy : {N : Type 0} → Option Refusal → Meaning N → State → Pairs N → Call N → Result (Option Line) Refusal → State → Pairs N → Type 0
 StepBy (Some x) m st bl c a st' bl' = Declined x st bl a st' bl'
 StepBy None m st bl c a st' bl' = Accepted m st bl c a st' bl'
 
 -- one call: from state and block to answer, state and block
-abbrev pub Step : {N : Type 0} → Meaning N → State → Pairs N → Call N → Result Reply Refusal → State → Pairs N → Type 0
+abbrev pub Step : {N : Type 0} → Meaning N → State → Pairs N → Call N → Result (Option Line) Refusal → State → Pairs N → Type 0
 Step m st bl c a st' bl' = StepBy (declined m st bl c) m st bl c a st' bl'
 
 -- what every state of a window keeps: the block has a pair for every place of the plan, no more samples than the size are loaded, a stage is still due while running

@@ -3,6 +3,7 @@
 #![tactic(auto)]
 
 use plan::{Method, Plan};
+use refusal::Refusal;
 
 // The plan in force and the modulus that it was made for.
 #[derive(Clone, Copy)]
@@ -55,9 +56,5 @@ pub struct Line {
     pub distance: u128,
 }
 
-// What an accepted call answers.
-#[derive(Clone, Copy, PartialEq, Eq, Debug)]
-pub enum Reply {
-    Done,
-    Opened(Line),
-}
+// What a call answers: the opened line, none where the call opens none; or the refusal where it is declined.
+pub type Answer = Result<Option<Line>, Refusal>;

@@ -8,7 +8,8 @@ use Rattle.plan.specs.declared.plan.Plan.{Plan}
 use Rattle.scheme.specs.Meaning.{Meaning, Sound}
 use Rattle.scheme.specs.Hidden.{StandsPair, WellFormed}
 use Rattle.scheme.proofs.Standing.{pair_itself}
-use Rattle.stages.specs.Block.{well_formed, is_well_formed_at, read_at}
+use Rattle.stages.specs.Block.{is_well_formed_at, read_at}
+use Rattle.scheme.specs.Hidden.{well_formed}
 use Rattle.stages.specs.Stage.{StageAnswer, StageRefused}
 use Rattle.stages.specs.Direct.{DirectAnswer, DirectRefused}
 use Rattle.stages.proofs.Blocks.{sound_there, read_there, both_true}

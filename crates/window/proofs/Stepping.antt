@@ -14,7 +14,6 @@ use Rattle.states.specs.declared.Kept.{Kept}
 use Rattle.states.specs.declared.State.{State}
 use Rattle.states.specs.declared.State.TheVariants.{Filling, Running, Finished}
 use Rattle.states.specs.declared.Call.TheVariants.{Plan as PlanCall, Begin, Advance}
-use Rattle.states.specs.declared.Reply.TheVariants.{Done}
 use Rattle.states.specs.Step.{Pairs, Step, Planned, Advanced, plan_declined, declined, first, unless, fits, progress, stages_for}
 use Rattle.window.specs.Parts.{Planning, Advancing}
 
@@ -73,10 +72,10 @@ module _ {N : Type 0} (m : Meaning N) (st : State) (bl : Pairs N) where
       let z : leb 0 kept.plan.size ≡ true = le-leb 0 kept.plan.size (omega arith) in
       rw (b, z) refl
 
-  pub planned : (k : Method) (size q1 q2 : ℕ) (kept : Kept) → Planning m bl k size q1 q2 (Ok kept) → Step m st bl (PlanCall k size q1 q2) (Ok Done) (Filling kept 0) bl
+  pub planned : (k : Method) (size q1 q2 : ℕ) (kept : Kept) → Planning m bl k size q1 q2 (Ok kept) → Step m st bl (PlanCall k size q1 q2) (Ok None) (Filling kept 0) bl
   planned k size q1 q2 kept h =
       let e : plan_declined m bl k size q1 q2 ≡ None = h.0 in
-      let t : Planned m bl k size q1 q2 (Ok Done) (Filling kept 0) bl =
+      let t : Planned m bl k size q1 q2 (Ok None) (Filling kept 0) bl =
       record {
         plan = kept.plan;
         has = h.1;
@@ -85,15 +84,15 @@ module _ {N : Type 0} (m : Meaning N) (st : State) (bl : Pairs N) where
       in
       rw e t
 
-  pub begun : (kept : Kept) (count : ℕ) (st' : State) → st ≡ Filling kept count → kept.plan.size ≤ count → st' ≡ progress kept 0 → Step m st bl Begin (Ok Done) st' bl
+  pub begun : (kept : Kept) (count : ℕ) (st' : State) → st ≡ Filling kept count → kept.plan.size ≤ count → st' ≡ progress kept 0 → Step m st bl Begin (Ok None) st' bl
   begun kept count st' e l h =
       let a : leb kept.plan.size count ≡ true = le-leb kept.plan.size count l in
-      let t : Step m (Filling kept count) bl Begin (Ok Done) st' bl = rw a (record { answer = refl; after = h; holds = refl }) in
-      subst (λ s. Step m s bl Begin (Ok Done) st' bl) (sym e) t
+      let t : Step m (Filling kept count) bl Begin (Ok None) st' bl = rw a (record { answer = refl; after = h; holds = refl }) in
+      subst (λ s. Step m s bl Begin (Ok None) st' bl) (sym e) t
 
-  pub advanced : (kept : Kept) (t : ℕ) (st' : State) (bl' : Pairs N) → st ≡ Running kept t → Advancing m kept t bl bl' (Ok tt) → st' ≡ progress kept (t + 1) → Step m st bl Advance (Ok Done) st' bl'
+  pub advanced : (kept : Kept) (t : ℕ) (st' : State) (bl' : Pairs N) → st ≡ Running kept t → Advancing m kept t bl bl' (Ok tt) → st' ≡ progress kept (t + 1) → Step m st bl Advance (Ok None) st' bl'
   advanced kept t st' bl' e h p =
       let d : declined m (Running kept t) bl Advance ≡ None = h.0 in
-      let a : Advanced m kept t bl (Ok Done) st' bl' = record { stage = h.1; becomes = record { answer = refl; after = p ∙ ap (progress kept) (add-one t); holds = refl } } in
-      let t : Step m (Running kept t) bl Advance (Ok Done) st' bl' = rw d a in
-      subst (λ s. Step m s bl Advance (Ok Done) st' bl') (sym e) t
+      let a : Advanced m kept t bl (Ok None) st' bl' = record { stage = h.1; becomes = record { answer = refl; after = p ∙ ap (progress kept) (add-one t); holds = refl } } in
+      let t : Step m (Running kept t) bl Advance (Ok None) st' bl' = rw d a in
+      subst (λ s. Step m s bl Advance (Ok None) st' bl') (sym e) t

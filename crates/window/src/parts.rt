@@ -1,6 +1,6 @@
 // The parts of the calls: what each does to the block, and why it is declined.
 ghost use Rattle.std.specs.Prelude.{◌≡◌, ℕ, ◌+◌, ◌<◌, ◌≤◌, true, length, slice_index_or, slice_set};
-ghost use Rattle.stages.specs.Block.{well_formed};
+ghost use Rattle.scheme.specs.Hidden.{well_formed};
 ghost use Rattle.states.specs.Step.{progress as progress_of, stages_for};
 ghost use Rattle.window.specs.Parts.{Beginning, Planning, Checking, Putting, Loading, Advancing, Reading, Opening};
 

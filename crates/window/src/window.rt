@@ -9,7 +9,7 @@ use crate::{parts, step};
 use plan::Method;
 use refusal::Refusal;
 use scheme::Scheme;
-use states::{Call, Reply, State};
+use states::{Answer, Call, State};
 
 // A window over a lent block of hidden pairs, real part first. The block comes back to its owner with what it then holds.
 #[derive(Drop)]
@@ -38,7 +38,7 @@ impl<'a, S: Scheme> Window<'a, S> {
     }
 
     // Any call: what it does depends on the window's state and the call together. A declined call changes nothing.
-    pub fn call(&mut self, s: &mut S, call: Call<S::Number>) -> Result<Reply, Refusal>
+    pub fn call(&mut self, s: &mut S, call: Call<S::Number>) -> Answer
         ensures step { Step (S.meaning s.old) self.old.state self.old.block.now call result self.new.state self.new.block.now }
         ensures frame { S.meaning s.new ≡ S.meaning s.old }
         ensures lender { self.new.block.ghost_name ≡ self.old.block.ghost_name }
@@ -56,7 +56,7 @@ impl<'a, S: Scheme> Window<'a, S> {
         size: u64,
         sample_scale: u64,
         twiddle_scale: u64,
-    ) -> Result<Reply, Refusal>
+    ) -> Answer
         ensures step { Step (S.meaning s.old) self.old.state self.old.block.now (PlanCall method size sample_scale twiddle_scale) result self.new.state self.new.block.now }
         ensures frame { S.meaning s.new ≡ S.meaning s.old }
         ensures lender { self.new.block.ghost_name ≡ self.old.block.ghost_name }
@@ -74,12 +74,7 @@ impl<'a, S: Scheme> Window<'a, S> {
 
     // Loads sample n, the next one or one loaded before, at its place. Refuses with Moment where the window is not filling, else with
     // Place, with Strange under another modulus, with Malformed at n.
-    pub fn load(
-        &mut self,
-        s: &mut S,
-        n: usize,
-        pair: (S::Number, S::Number),
-    ) -> Result<Reply, Refusal>
+    pub fn load(&mut self, s: &mut S, n: usize, pair: (S::Number, S::Number)) -> Answer
         ensures step { Step (S.meaning s.old) self.old.state self.old.block.now (Load n pair) result self.new.state self.new.block.now }
         ensures frame { S.meaning s.new ≡ S.meaning s.old }
         ensures lender { self.new.block.ghost_name ≡ self.old.block.ghost_name }
@@ -89,7 +84,7 @@ impl<'a, S: Scheme> Window<'a, S> {
 
     // Begins the stages, or finishes where none is due. Refuses with Moment where the window is not filling, else with Short where
     // samples are missing. What it does hangs on no scheme.
-    pub fn begin(&mut self) -> Result<Reply, Refusal>
+    pub fn begin(&mut self) -> Answer
         ensures step { (m : Meaning S.Number) → Step m self.old.state self.old.block.now Begin result self.new.state self.new.block.now }
         ensures lender { self.new.block.ghost_name ≡ self.old.block.ghost_name }
     {
@@ -97,7 +92,7 @@ impl<'a, S: Scheme> Window<'a, S> {
         match *state {
             State::Filling { kept, count } => {
                 *state = parts::begun(kept, count)?;
-                Ok(Reply::Done)
+                Ok(None)
             }
             _ => Err(Refusal::Moment),
         }
@@ -105,7 +100,7 @@ impl<'a, S: Scheme> Window<'a, S> {
 
     // One stage; after the last the window is finished. Refuses with Moment where the window is not running, else with Strange under
     // another modulus, else with Malformed at the first malformed pair among those of the plan.
-    pub fn advance(&mut self, s: &mut S) -> Result<Reply, Refusal>
+    pub fn advance(&mut self, s: &mut S) -> Answer
         ensures step { Step (S.meaning s.old) self.old.state self.old.block.now Advance result self.new.state self.new.block.now }
         ensures frame { S.meaning s.new ≡ S.meaning s.old }
         ensures lender { self.new.block.ghost_name ≡ self.old.block.ghost_name }
@@ -115,7 +110,7 @@ impl<'a, S: Scheme> Window<'a, S> {
 
     // Line k, opened. Refuses with Moment where the window is not finished, else with Place where k is not below the size, with Strange
     // under another modulus, with Malformed where a pair that is read is malformed.
-    pub fn line(&mut self, s: &mut S, k: usize) -> Result<Reply, Refusal>
+    pub fn line(&mut self, s: &mut S, k: usize) -> Answer
         ensures step { Step (S.meaning s.old) self.old.state self.old.block.now (LineCall k) result self.new.state self.new.block.now }
         ensures frame { S.meaning s.new ≡ S.meaning s.old }
         ensures lender { self.new.block.ghost_name ≡ self.old.block.ghost_name }
@@ -124,7 +119,7 @@ impl<'a, S: Scheme> Window<'a, S> {
     }
 
     // Back to no samples under the plan in force. Refuses with Moment where there is no plan. What it does hangs on no scheme.
-    pub fn restart(&mut self) -> Result<Reply, Refusal>
+    pub fn restart(&mut self) -> Answer
         ensures step { (m : Meaning S.Number) → Step m self.old.state self.old.block.now Restart result self.new.state self.new.block.now }
         ensures lender { self.new.block.ghost_name ≡ self.old.block.ghost_name }
     {
@@ -134,7 +129,7 @@ impl<'a, S: Scheme> Window<'a, S> {
             State::Filling { kept, .. } | State::Running { kept, .. } | State::Finished { kept } =>
                 {
                     *state = State::Filling { kept, count: 0 };
-                    Ok(Reply::Done)
+                    Ok(None)
                 }
         }
     }

@@ -1,5 +1,4 @@
-use Rattle.std.proofs.Common.{◌≡◌, ◌≤◌, List, [], ◌∷◌, ◌++◌, length, Some, Ok, vec_items, sym, ◌∙◌, subst, rules}
-use Rattle.states.specs.declared.Reply.TheVariants.{Done}
+use Rattle.std.proofs.Common.{◌≡◌, ◌≤◌, List, [], ◌∷◌, ◌++◌, length, Some, Ok, vec_items, sym, ◌∙◌, subst, rules, None}
 use Rattle.scheme.specs.Meaning.{Meaning}
 use Rattle.session.specs.Session.{Answer}
 use Rattle.session.specs.Serving.{ServedFrom}
@@ -11,7 +10,7 @@ returns-in-Replaced g c =
     let long : length (vec_items c.loop-at.answers) ≡ c.loop-at.at = sym c.loop-at.answers.ok.0 ∙ c.loop-at.invariant.2 in
     let frame : g.S.Scheme.meaning c.loop-at.s ≡ g.S.Scheme.meaning c.args.s.now = c.loop-at.invariant.1 in
     let served = goes_chosen (g.S.Scheme.meaning c.loop-at.s) c.args.lines.now (vec_items c.args.answers.now) c.loop-at.window.state c.loop-at.window.block.now (vec_items c.loop-at.answers) c.loop-at.invariant.0 c.loop-at.at _ c.loop-at-test.true long c.in-Replaced.scheme c.in-Replaced.ensures.turning in
-    let items : vec_items c.push-in-Replaced.new.self ≡ vec_items c.loop-at.answers ++ Ok Done ∷ [] = c.in_ok-push-in-Replaced.ensures.items in
+    let items : vec_items c.push-in-Replaced.new.self ≡ vec_items c.loop-at.answers ++ Ok None ∷ [] = c.in_ok-push-in-Replaced.ensures.items in
     let all = subst (λ (rs : List Answer). ServedFrom (g.S.Scheme.meaning c.loop-at.s) c.args.lines.now (vec_items c.args.answers.now) rs (Some c.in-Replaced.scheme)) (sym items) served in
     record { served = subst (λ (m : Meaning g.row.S-Number.Denot). ServedFrom m c.args.lines.now (vec_items c.args.answers.now) (vec_items c.push-in-Replaced.new.self) (Some c.in-Replaced.scheme)) frame all; counted = search rules }
 

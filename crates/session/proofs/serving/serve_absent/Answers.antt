@@ -1,5 +1,4 @@
-use Rattle.std.proofs.Common.{◌≡◌, ◌≤◌, List, [], ◌∷◌, ◌++◌, length, Some, Ok, vec_items, sym, ◌∙◌, subst, rules}
-use Rattle.states.specs.declared.Reply.TheVariants.{Done}
+use Rattle.std.proofs.Common.{◌≡◌, ◌≤◌, List, [], ◌∷◌, ◌++◌, length, Some, Ok, vec_items, sym, ◌∙◌, subst, rules, None}
 use Rattle.session.specs.Session.{Answer, absent}
 use Rattle.session.specs.Serving.{Served}
 use Rattle.session.proofs.Phases.{waits_more, waits_chosen, waits_all}
@@ -9,7 +8,7 @@ pub returns-in-Replaced : goal.returns-in-Replaced
 returns-in-Replaced c =
     let long : length (vec_items c.loop-line.answers) ≡ c.loop-line.line-index = sym c.loop-line.answers.ok.0 ∙ c.loop-line.invariant.1 in
     let served = waits_chosen c.args.lines.now (vec_items c.loop-line.answers) c.loop-line.invariant.0 c.loop-line.line-index _ c.loop-line-test.true long c.in-Replaced.scheme c.in-Replaced.ensures in
-    let items : vec_items c.push-in-Replaced.new.self ≡ vec_items c.loop-line.answers ++ Ok Done ∷ [] = c.in_ok-push-in-Replaced.ensures.items in
+    let items : vec_items c.push-in-Replaced.new.self ≡ vec_items c.loop-line.answers ++ Ok None ∷ [] = c.in_ok-push-in-Replaced.ensures.items in
     record { served = subst (λ (rs : List Answer). Served absent c.args.lines.now rs (Some c.in-Replaced.scheme)) (sym items) served; counted = search rules }
 
 pub loop-line-preserved : goal.loop-line-preserved

@@ -1,5 +1,5 @@
 use Rattle.std.proofs.Common.{◌≡◌, ◌<◌, ◌≤◌, true, eqb, ltb, leb, sym, refl, ◌∙◌, arith, lt-ltb, eq-eqb, le-leb}
-use Rattle.stages.specs.Block.{well_formed}
+use Rattle.scheme.specs.Hidden.{well_formed}
 use Rattle.window.proofs.parts.check_load.Goals as goal
 
 pub returns : goal.returns

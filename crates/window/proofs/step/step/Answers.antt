@@ -1,5 +1,4 @@
-use Rattle.std.proofs.Common.{◌≡◌, ◌+◌, ◌≤◌, true, length, Ok, sym, refl, subst, arith}
-use Rattle.states.specs.declared.Reply.TheVariants.{Done}
+use Rattle.std.proofs.Common.{◌≡◌, ◌+◌, ◌≤◌, true, length, Ok, sym, refl, subst, arith, None}
 use Rattle.states.specs.declared.State.TheVariants.{Filling}
 use Rattle.states.specs.Step.{Step, fits, stages_for}
 use Rattle.window.proofs.Stepping.{stages_few, filling_fits, running_fits, progress_fits, planned_fits, planned, begun, advanced}
@@ -20,7 +19,7 @@ returns-in_ok-kept-in_default-Plan g c =
     let h = c.in_ok-kept-in_default-Plan.ensures.value in
     record {
       step =
-          subst (λ k. Step m c.args.state.now bl k (Ok Done) (Filling kept 0) bl) (sym p.is-1)
+          subst (λ k. Step m c.args.state.now bl k (Ok None) (Filling kept 0) bl) (sym p.is-1)
           (planned m c.args.state.now bl p.method p.size p.sample_scale p.twiddle_scale kept h);
       fits = planned_fits m c.args.state.now bl p.method p.size p.sample_scale p.twiddle_scale kept h;
       frame = c.plan_for.ensures.frame;
@@ -41,7 +40,7 @@ returns-in_ok-advance_at-in-Running-Advance g c =
     let d : t + 1 ≤ stages_for kept.plan = omega (arith, f.1) in
     record {
       step =
-          subst (λ k. Step m st bl k (Ok Done) r after) (sym c.in-Running-Advance.is-1)
+          subst (λ k. Step m st bl k (Ok None) r after) (sym c.in-Running-Advance.is-1)
           (advanced m st bl kept t r after c.in-Running-Advance.is-0 h c.advanced.ensures);
       fits = subst (λ s. fits (length after) s ≡ true) (sym c.advanced.ensures) (progress_fits (length after) kept (t + 1) l d);
       frame = c.advance_at.ensures.frame;
@@ -58,7 +57,7 @@ returns-in_ok-state-in-Filling-Begin g c =
     let f = filling_fits (length bl) st kept c.in-Filling-Begin.count c.in-Filling-Begin.is-0 c.requires in
     record {
       step =
-          subst (λ k. Step m st bl k (Ok Done) r bl) (sym c.in-Filling-Begin.is-1)
+          subst (λ k. Step m st bl k (Ok None) r bl) (sym c.in-Filling-Begin.is-1)
           (begun m st bl kept c.in-Filling-Begin.count r c.in-Filling-Begin.is-0 h.0 h.1);
       fits = subst (λ s. fits (length bl) s ≡ true) (sym h.1) (progress_fits (length bl) kept 0 f.0 (omega arith));
       frame = refl;
