@@ -21,7 +21,8 @@ impl Modulus {
     pub fn new(n: u64) -> Option<Modulus>
         ensures { Made n result }
     {
-        if n % 2 == 1 && n >= 3 && n < 1 << 62 {
+        // no plainer with `then`: its closure would have to repeat the three facts of the type
+        if n % 2 == 1 && (3..1 << 62).contains(&n) {
             Some(Modulus { n })
         } else {
             None
@@ -87,9 +88,7 @@ mod tests {
 
     #[test]
     fn residues_at_the_ends(rt: HostRuntime) -> Result<(), Fail> {
-        let Some(n) = Modulus::new(4611686018427387903) else {
-            return Err(Fail::new("2^62 - 1 is a modulus"));
-        };
+        let n = Modulus::new(4611686018427387903).ok_or("2^62 - 1 is a modulus")?;
         assert_eq!(rt; n.half(), 2305843009213693951);
         assert_eq!(rt; n.residue(i64::MIN), 4611686018427387901);
         assert_eq!(rt; n.residue(i64::MAX), 1);
