@@ -25,39 +25,23 @@ back Modulus = refl
 back Garbled = refl
 back Long = refl
 
-low : (x : Refusal) → 1 ≤ (row x).number
-low Size = lit≤ tt
-low SampleScale = lit≤ tt
-low TwiddleScale = lit≤ tt
-low Block = lit≤ tt
-low Narrow = lit≤ tt
-low Moment = lit≤ tt
-low Place = lit≤ tt
-low Strange = lit≤ tt
-low (Malformed p) = lit≤ tt
-low Short = lit≤ tt
-low Large = lit≤ tt
-low Mask = lit≤ tt
-low Modulus = lit≤ tt
-low Garbled = lit≤ tt
-low Long = lit≤ tt
-
-high : (x : Refusal) → (row x).number ≤ 15
-high Size = lit≤ tt
-high SampleScale = lit≤ tt
-high TwiddleScale = lit≤ tt
-high Block = lit≤ tt
-high Narrow = lit≤ tt
-high Moment = lit≤ tt
-high Place = lit≤ tt
-high Strange = lit≤ tt
-high (Malformed p) = lit≤ tt
-high Short = lit≤ tt
-high Large = lit≤ tt
-high Mask = lit≤ tt
-high Modulus = lit≤ tt
-high Garbled = lit≤ tt
-high Long = lit≤ tt
+-- every number is from 1 to 15
+bounded : (x : Refusal) → (1 ≤ (row x).number) × ((row x).number ≤ 15)
+bounded Size = (lit≤ tt, lit≤ tt)
+bounded SampleScale = (lit≤ tt, lit≤ tt)
+bounded TwiddleScale = (lit≤ tt, lit≤ tt)
+bounded Block = (lit≤ tt, lit≤ tt)
+bounded Narrow = (lit≤ tt, lit≤ tt)
+bounded Moment = (lit≤ tt, lit≤ tt)
+bounded Place = (lit≤ tt, lit≤ tt)
+bounded Strange = (lit≤ tt, lit≤ tt)
+bounded (Malformed p) = (lit≤ tt, lit≤ tt)
+bounded Short = (lit≤ tt, lit≤ tt)
+bounded Large = (lit≤ tt, lit≤ tt)
+bounded Mask = (lit≤ tt, lit≤ tt)
+bounded Modulus = (lit≤ tt, lit≤ tt)
+bounded Garbled = (lit≤ tt, lit≤ tt)
+bounded Long = (lit≤ tt, lit≤ tt)
 
 pub distinct : Distinct
-distinct = record { low = low; high = high; told = λ x y e f. sym (back x) ∙ ap₂ refusal_of e f ∙ back y }
+distinct = record { low = λ x. (bounded x).0; high = λ x. (bounded x).1; told = λ x y e f. sym (back x) ∙ ap₂ refusal_of e f ∙ back y }

@@ -11,50 +11,42 @@ use std::error::Error;
 use std::fmt;
 
 impl Refusal {
+    // The number and the word, in one table: a variant that carries a place leaves no number to `as`.
+    fn number_and_word(&self) -> (u8, &'static str)
+        ensures number { result.0 ≡ (row self.now).number }
+        ensures word { result.1.now ≡ (row self.now).word }
+    {
+        match self {
+            Refusal::Size => (1, "size"),
+            Refusal::SampleScale => (2, "sample scale"),
+            Refusal::TwiddleScale => (3, "twiddle scale"),
+            Refusal::Block => (4, "block"),
+            Refusal::Narrow => (5, "narrow"),
+            Refusal::Moment => (6, "moment"),
+            Refusal::Place => (7, "place"),
+            Refusal::Strange => (8, "strange"),
+            Refusal::Malformed(_) => (9, "malformed"),
+            Refusal::Short => (10, "short"),
+            Refusal::Large => (11, "large"),
+            Refusal::Mask => (12, "mask"),
+            Refusal::Modulus => (13, "modulus"),
+            Refusal::Garbled => (14, "garbled"),
+            Refusal::Long => (15, "long"),
+        }
+    }
+
     // The number of the refusal, from 1 to 15.
     pub fn number(&self) -> u8
         ensures { result ≡ (row self.now).number }
     {
-        match self {
-            Refusal::Size => 1,
-            Refusal::SampleScale => 2,
-            Refusal::TwiddleScale => 3,
-            Refusal::Block => 4,
-            Refusal::Narrow => 5,
-            Refusal::Moment => 6,
-            Refusal::Place => 7,
-            Refusal::Strange => 8,
-            Refusal::Malformed(_) => 9,
-            Refusal::Short => 10,
-            Refusal::Large => 11,
-            Refusal::Mask => 12,
-            Refusal::Modulus => 13,
-            Refusal::Garbled => 14,
-            Refusal::Long => 15,
-        }
+        self.number_and_word().0
     }
 
     // The word of the refusal, in lower case.
     pub fn word(&self) -> &'static str
         ensures { result.now ≡ (row self.now).word }
     {
-        match self {
-            Refusal::Size => "size",
-            Refusal::SampleScale => "sample scale",
-            Refusal::TwiddleScale => "twiddle scale",
-            Refusal::Block => "block",
-            Refusal::Narrow => "narrow",
-            Refusal::Moment => "moment",
-            Refusal::Place => "place",
-            Refusal::Strange => "strange",
-            Refusal::Malformed(_) => "malformed",
-            Refusal::Short => "short",
-            Refusal::Large => "large",
-            Refusal::Mask => "mask",
-            Refusal::Modulus => "modulus",
-            Refusal::Garbled => "garbled",
-            Refusal::Long => "long",
-        }
+        self.number_and_word().1
     }
 
     // The place that the refusal tells, if it tells one.
@@ -73,8 +65,7 @@ impl fmt::Display for Refusal {
     ghost output = { λ r. Some (text (row r)) };
 
     fn fmt<W: fmt::Write>(&self, f: &mut fmt::Formatter<W>) -> fmt::Result {
-        let number = self.number();
-        let word = self.word();
+        let (number, word) = self.number_and_word();
         match self.place() {
             None => write!(f, "{number} {word}"),
             Some(place) => write!(f, "{number} {word} at {place}"),
