@@ -2,7 +2,7 @@
 // Angles are counted in 256ths of a turn.
 #![tactic(auto)]
 
-ghost use Rattle.std.specs.Prelude.{◌≡◌, ◌-◌, ◌*◌, ◌^◌, ◌<◌, ◌≤◌, pos, ◌*ℤ◌, unsigned_abs};
+ghost use Rattle.std.specs.Prelude.{◌≡◌, ◌-◌, ◌*◌, ◌^◌, ◌<◌, ◌≤◌, pos, ◌*ℤ◌, unsigned_abs, cond, nat_le, Some, None};
 ghost use Rattle.circle.specs.Circle.{circle, mirrored, cosine as cosine_of, sine as sine_of, in_quarter, CircleDetermined};
 ghost use Rattle.circle.specs.Nearest.{NearestQuotient, NearestSigned};
 ghost use Rattle.circle.specs.Near.{Near, multiple, sizes};
@@ -24,7 +24,7 @@ struct Point {
     sin: u32,
 }
 
-// The first eighth of the circle, from 0 to 32: cosine and sine.
+// The first eighth of the circle, from 0 to 32: cosine and sine. Pairs and no points: named fields are no plainer, at four lines an entry.
 const EIGHTH: [(u32, u32); 33] = [
     (1_073_741_824, 0),
     (1_073_418_433, 26_350_943),
@@ -87,18 +87,25 @@ fn quarter(v: usize) -> Point
     }
 }
 
+// The point at v; none past a quarter of a turn.
+fn point_at(v: usize) -> Option<Point>
+    ensures { result ≡ cond (nat_le v 64) (Some (circle v)) None }
+{
+    (v <= 64).then(|| quarter(v))
+}
+
 // The cosine at v times 2^30; none past a quarter of a turn.
 pub fn cosine(v: usize) -> Option<u32>
     ensures { result ≡ in_quarter v (cosine_of v) }
 {
-    if v <= 64 { Some(quarter(v).cos) } else { None }
+    point_at(v).map(|p| p.cos)
 }
 
 // The sine at v times 2^30; none past a quarter of a turn.
 pub fn sine(v: usize) -> Option<u32>
     ensures { result ≡ in_quarter v (sine_of v) }
 {
-    if v <= 64 { Some(quarter(v).sin) } else { None }
+    point_at(v).map(|p| p.sin)
 }
 
 // The rules of the circle have exactly one solution, which `cosine` and `sine` answer.
@@ -167,7 +174,7 @@ pub fn twiddle(u: usize, scale: u32) -> Complex
 pub fn spread(scale: u32) -> u64
     ensures { result ≡ spread_of scale }
 {
-    3 * scale as u64 / 2 + 1
+    3 * u64::from(scale) / 2 + 1
 }
 
 // The rules of the fine twiddles have exactly one solution, which `fine_twiddle` answers.

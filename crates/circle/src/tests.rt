@@ -40,8 +40,7 @@ const EXPECTED: [(u32, u32); 33] = [
 // Every entry of the first eighth, and its mirror image.
 #[test]
 fn quarter_of_the_circle(rt: HostRuntime) {
-    for v in 0..33 {
-        let (cos, sin) = EXPECTED[v];
+    for (v, (cos, sin)) in EXPECTED.into_iter().enumerate() {
         assert_eq!(rt; cosine(v), Some(cos));
         assert_eq!(rt; sine(v), Some(sin));
         assert_eq!(rt; cosine(64 - v), Some(sin));

@@ -8,7 +8,7 @@ use Rattle.plan.specs.declared.method.Method.TheVariants.{Direct, Radix2, Radix4
 use Rattle.plan.specs.declared.figures.Figures.{Figures}
 use Rattle.plan.specs.Methods.{sizes, sized, base, rounding}
 use Rattle.plan.specs.Meaning.{directly, exact, stage, growth, radix, figures_of, Representable}
-use Rattle.plan.proofs.Powers.{carried}
+use Rattle.plan.proofs.Powers.{carried, at_most_256}
 
 -- no figure of f passes that of g
 pub record Under (f g : Figures) : Type 0 where
@@ -70,11 +70,7 @@ largest Direct = carried (LargestAt Direct) (sizes Direct) (computed _ tt tt tt,
 largest Radix2 = carried (LargestAt Radix2) (sizes Radix2) (computed _ tt tt tt, (computed _ tt tt tt, (computed _ tt tt tt, (computed _ tt tt tt, (computed _ tt tt tt, (computed _ tt tt tt, (computed _ tt tt tt, (computed _ tt tt tt, (computed _ tt tt tt, tt)))))))))
 largest Radix4 = carried (LargestAt Radix4) (sizes Radix4) (computed _ tt tt tt, (computed _ tt tt tt, (computed _ tt tt tt, (computed _ tt tt tt, (computed _ tt tt tt, tt)))))
 
--- the size below a lawful one leaves room for a stage
-pub limited_below : (k : Method) (m q1 q2 p : ℕ) (f : Figures) → sized k m ≡ true → q1 ≤ 32767 → q2 ≤ 32768 → p ≡ base k → f ≡ radix k 6 (m / p) q1 q2 → Limited f
-limited_below k m q1 q2 p f h a b e i = rw (i, e) (limited_under _ _ (radix_grows k 6 (m / base k) q1 32767 q2 32768 a b) (largest k m h))
-
-pub growth_limited : (k : Method) (q : ℕ) → q ≤ 32768 → growth k q < 2 ^ 18
+growth_limited : (k : Method) (q : ℕ) → q ≤ 32768 → growth k q < 2 ^ 18
 growth_limited k q h = lt_of_le_of_lt (growth_grows k q 32768 h) (at k)
   where
     at : (k : Method) → growth k 32768 < 2 ^ 18
@@ -82,10 +78,23 @@ growth_limited k q h = lt_of_le_of_lt (growth_grows k q 32768 h) (at k)
     at Radix2 = lit< tt
     at Radix4 = lit< tt
 
-pub rounding_limited : (k : Method) (m : ℕ) → m ≤ 256 → rounding k m < 2 ^ 9
+rounding_limited : (k : Method) (m : ℕ) → m ≤ 256 → rounding k m < 2 ^ 9
 rounding_limited Direct m h = omega arith
 rounding_limited Radix2 m h = omega arith
 rounding_limited Radix4 m h = omega arith
+
+-- the size below a lawful one leaves room for a stage of growth g and rounding w
+pub record Room (f : Figures) (g w : ℕ) : Type 0 where
+  pub below : Limited f
+  pub growth : g < 2 ^ 18
+  pub rounding : w < 2 ^ 9
+
+pub room : (k : Method) (m q1 q2 g w : ℕ) (f : Figures) → sized k m ≡ true → q1 ≤ 32767 → q2 ≤ 32768 → f ≡ radix k 6 (m / base k) q1 q2 → g ≡ growth k q2 → w ≡ rounding k m → Room f g w
+room k m q1 q2 g w f h a b i u v = record {
+  below = rw i (limited_under _ _ (radix_grows k 6 (m / base k) q1 32767 q2 32768 a b) (largest k m h));
+  growth = rw u (growth_limited k q2 b);
+  rounding = rw v (rounding_limited k m (at_most_256 k m h));
+}
 
 -- the figures at size n and the largest scales
 abbrev TopAt : Method → ℕ → Type 0

@@ -18,9 +18,9 @@ radix_step Direct q1 q2 = carried (StepAt Direct q1 q2) (sizes Direct) (λ h. ab
 radix_step Radix2 q1 q2 = carried (StepAt Radix2 q1 q2) (sizes Radix2) (λ h. absurd (omega arith), (λ h. absurd (omega arith), (λ h. absurd (omega arith), (λ h. refl, (λ h. refl, (λ h. refl, (λ h. refl, (λ h. refl, (λ h. refl, tt)))))))))
 radix_step Radix4 q1 q2 = carried (StepAt Radix4 q1 q2) (sizes Radix4) (λ h. absurd (omega arith), (λ h. absurd (omega arith), (λ h. refl, (λ h. refl, (λ h. refl, tt)))))
 
--- the step as the code makes it, from parts that it knows by equations
-pub radix_from : (k : Method) (m q1 q2 p g w : ℕ) (f : Figures) → sized k m ≡ true → 4 < m → p ≡ base k → f ≡ radix k 6 (m / p) q1 q2 → g ≡ growth k q2 → w ≡ rounding k m → stage g w q1 q2 f ≡ radix k 6 m q1 q2
-radix_from k m q1 q2 p g w f h l a b c d = rw (d, c, b, a) (sym (radix_step k q1 q2 m h l))
+-- a stage on top of what are the figures of the size below
+pub radix_from : (k : Method) (m q1 q2 : ℕ) (f : Figures) → sized k m ≡ true → 4 < m → f ≡ radix k 6 (m / base k) q1 q2 → stage (growth k q2) (rounding k m) q1 q2 f ≡ radix k 6 m q1 q2
+radix_from k m q1 q2 f h l e = rw e (sym (radix_step k q1 q2 m h l))
 
 -- up to size 4 a radix line is exact
 pub small : (k : Method) (m q1 q2 : ℕ) → m ≤ 4 → radix k 6 m q1 q2 ≡ exact m q1

@@ -1,11 +1,11 @@
 -- Making a plan from four numbers: which refusal answers, and what the plan holds.
-use Rattle.std.specs.Prelude.{◌≡◌, ℕ, Bool, false, cond, Some, None, Ok, Err, Option, Result, nat_le}
+use Rattle.std.specs.Prelude.{◌≡◌, ℕ, ◌/◌, ◌<◌, ◌≤◌, Bool, false, cond, Some, None, Ok, Err, Option, Result, nat_le}
 use Rattle.refusal.specs.declared.kinds.Refusal.{Refusal}
 use Rattle.refusal.specs.declared.kinds.Refusal.TheVariants.{Size, SampleScale, TwiddleScale}
 use Rattle.plan.specs.declared.method.Method.{Method}
 use Rattle.plan.specs.declared.plan.Plan.{Plan}
 use Rattle.plan.specs.declared.figures.Figures.{Figures}
-use Rattle.plan.specs.Methods.{sized}
+use Rattle.plan.specs.Methods.{sized, base}
 use Rattle.plan.specs.Meaning.{figures_of}
 
 -- n lies from 1 to the limit
@@ -31,3 +31,8 @@ Makes k m q1 q2 (Err x) = refused k m q1 q2 ≡ Some x
 -- the figures of a plan
 abbrev pub meaning_of : Plan → Figures
 meaning_of p = figures_of p.method p.size p.sample_scale p.twiddle_scale
+
+-- the plan of the lines that a stage of the plan p combines, of the size below; none up to size 4
+abbrev pub Inner : Plan → Option Plan → Type 0
+Inner p (Some q) = (4 < p.size) × Has q p.method (p.size / base p.method) p.sample_scale p.twiddle_scale
+Inner p None = p.size ≤ 4

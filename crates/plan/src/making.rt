@@ -20,10 +20,10 @@ impl Plan {
         if !method.allows(size) {
             return Err(Refusal::Size);
         }
-        if sample_scale < 1 || sample_scale > 32767 {
+        if !(1..=32767).contains(&sample_scale) {
             return Err(Refusal::SampleScale);
         }
-        if twiddle_scale < 1 || twiddle_scale > 32768 {
+        if !(1..=32768).contains(&twiddle_scale) {
             return Err(Refusal::TwiddleScale);
         }
         Ok(Plan {

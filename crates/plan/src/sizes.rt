@@ -1,6 +1,6 @@
 // What is said of a method: its sizes and its name.
-ghost use Rattle.std.specs.Prelude.{◌≡◌, ◌≤◌, Some};
-ghost use Rattle.plan.specs.Methods.{base, name, rounding, sized};
+ghost use Rattle.std.specs.Prelude.{◌≡◌, Some};
+ghost use Rattle.plan.specs.Methods.{base, name, sized};
 
 use super::method::Method;
 use std::fmt;
@@ -25,17 +25,6 @@ impl Method {
         match self {
             Method::Direct | Method::Radix2 => 2,
             Method::Radix4 => 4,
-        }
-    }
-
-    // The weight of the rounding of a stage's twiddles.
-    pub(crate) fn rounding(self, size: usize) -> usize
-        requires { size ≤ 256 }
-        ensures { result ≡ rounding self size }
-    {
-        match self {
-            Method::Direct | Method::Radix2 => size,
-            Method::Radix4 => 5 * size / 4,
         }
     }
 }

@@ -1,4 +1,0 @@
-use Rattle.plan.proofs.meaning.+radix_figures.Given as goal
-
-abbrev pub decreases-radix_figures : goal.decreases-radix_figures
-decreases-radix_figures l = l.size
