@@ -11,17 +11,14 @@ impl Card {
     pub fn new(plan: Plan, modulus: u64) -> Card
         ensures { CardOf plan modulus result }
     {
-        let least_modulus = plan.least_modulus();
-        let fit = plan.fits(modulus);
-        let verdict = Verdict {
-            least_modulus,
-            modulus,
-            fit,
-        };
         Card {
             plan,
             figures: plan.figures(),
-            verdict,
+            verdict: Verdict {
+                least_modulus: plan.least_modulus(),
+                modulus,
+                fit: plan.fits(modulus),
+            },
         }
     }
 }
@@ -31,10 +28,13 @@ impl fmt::Display for Verdict {
     ghost output = { λ v. Some (verdict_text v) };
 
     fn fmt<W: fmt::Write>(&self, f: &mut fmt::Formatter<W>) -> fmt::Result {
-        let least = self.least_modulus;
-        let modulus = self.modulus;
-        match self.fit {
-            Ok(_) => write!(f, "least modulus {least}: fits {modulus}"),
+        let Verdict {
+            least_modulus: least,
+            modulus,
+            fit,
+        } = *self;
+        match fit {
+            Ok(()) => write!(f, "least modulus {least}: fits {modulus}"),
             Err(refusal) => write!(f, "least modulus {least}: {modulus} is refused, {refusal}"),
         }
     }
@@ -45,9 +45,11 @@ impl fmt::Display for Card {
     ghost output = { λ c. Some (card_text c) };
 
     fn fmt<W: fmt::Write>(&self, f: &mut fmt::Formatter<W>) -> fmt::Result {
-        let plan = self.plan;
-        let figures = self.figures;
-        let verdict = self.verdict;
+        let Card {
+            plan,
+            figures,
+            verdict,
+        } = *self;
         write!(f, "{plan}\n  {figures}\n  {verdict}")
     }
 }

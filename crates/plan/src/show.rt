@@ -11,10 +11,12 @@ impl fmt::Display for Plan {
     ghost output = { λ p. Some (plan_text p) };
 
     fn fmt<W: fmt::Write>(&self, f: &mut fmt::Formatter<W>) -> fmt::Result {
-        let method = self.method;
-        let size = self.size;
-        let sample = self.sample_scale;
-        let twiddle = self.twiddle_scale;
+        let Plan {
+            method,
+            size,
+            sample_scale: sample,
+            twiddle_scale: twiddle,
+        } = *self;
         write!(
             f,
             "{method}, size {size}, sample scale {sample}, twiddle scale {twiddle}"

@@ -9,9 +9,9 @@ use std::io;
 
 fn print_circle(rt: &impl Print) -> io::Result<()> {
     for v in 0..66 {
-        match (cosine(v), sine(v)) {
-            (Some(c), Some(s)) => println!(rt; "circle {v} {c} {s}")?,
-            _ => println!(rt; "circle {v} none")?,
+        match cosine(v).zip(sine(v)) {
+            Some((c, s)) => println!(rt; "circle {v} {c} {s}")?,
+            None => println!(rt; "circle {v} none")?,
         }
     }
     for u in 0..260 {
@@ -91,7 +91,8 @@ fn main(rt: HostRuntime) -> io::Result<()> {
     for scale in [0, 1, 2, 10, 12_345, 32_768, u32::MAX] {
         print_twiddles(&rt, scale)?;
     }
-    print_sizes(&rt, Method::Direct)?;
-    print_sizes(&rt, Method::Radix2)?;
-    print_sizes(&rt, Method::Radix4)
+    for method in [Method::Direct, Method::Radix2, Method::Radix4] {
+        print_sizes(&rt, method)?;
+    }
+    Ok(())
 }
