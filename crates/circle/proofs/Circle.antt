@@ -1,45 +1,42 @@
 -- The rules of the circle have exactly one solution: that there is one by computed tests, that there is no other along the steps
 -- from an angle to its double or its mirror image.
-use Rattle.std.proofs.Common.{◌≡◌, ℕ, zero, suc, ◌+◌, ◌-◌, ◌*◌, ◌^◌, ◌<◌, ◌≤◌, Bool, true, false, cond, not, T, eqb, ltb, leb, sym, refl, ap, ◌∙◌, subst, not-suc-le-zero, arith, eqb→eq, ltb→lt, leb→le}
-use lib.Dec.{nleb→lt}
+use Rattle.std.proofs.Common.{◌≡◌, ℕ, zero, suc, ◌+◌, ◌-◌, ◌*◌, ◌^◌, ◌<◌, ◌≤◌, Bool, true, false, cond, ◌&&◌, eqb, ltb, leb, sym, refl, ap, ◌∙◌, subst, not-suc-le-zero, arith}
+use Rattle.std.proofs.lemmas.Bool.{and_parts, eqb-true, leb-true, leb-false, ltb-true}
+use borrow.Author.Tests.{clash}
 use Rattle.circle.specs.declared.Point.{Point}
 use Rattle.circle.specs.Nearest.{NearestRoot, NearestQuotient}
 use Rattle.circle.specs.Circle.{Circle, CircleDetermined, circle, cosine, sine, point, mirrored, halved, nearest_root, floor_root}
 use Rattle.circle.proofs.Unique.{root_unique, quotient_unique}
-use Rattle.circle.proofs.Table.{both, both_left, both_right, every_at}
+use Rattle.circle.proofs.Table.{every_at}
 
 is_root : ℕ → ℕ → Bool
-is_root x r = both (leb 1 r) (both (ltb ((2 * r - 1) * (2 * r - 1)) (4 * x)) (ltb (4 * x) ((2 * r + 1) * (2 * r + 1))))
+is_root x r = leb 1 r && (ltb ((2 * r - 1) * (2 * r - 1)) (4 * x) && ltb (4 * x) ((2 * r + 1) * (2 * r + 1)))
 
-root : (x r : ℕ) → T (is_root x r) → NearestRoot x r
+root : (x r : ℕ) → is_root x r ≡ true → NearestRoot x r
 unfolding is_root
 root x r t =
-    let a = leb 1 r in
-    let b = ltb ((2 * r - 1) * (2 * r - 1)) (4 * x) in
-    let c = ltb (4 * x) ((2 * r + 1) * (2 * r + 1)) in
-    let u = both_right a (both b c) t in
-    record { positive = leb→le 1 r (both_left a (both b c) t); above = ltb→lt _ _ (both_left b c u); below = ltb→lt _ _ (both_right b c u) }
+    let (positive, rest) = and_parts _ _ t in
+    let (above, below) = and_parts _ _ rest in
+    record { positive = leb-true _ _ positive; above = ltb-true _ _ above; below = ltb-true _ _ below }
 
 is_quotient : ℕ → ℕ → ℕ → Bool
-is_quotient a b r = both (ltb 0 b) (both (leb (2 * b * r) (2 * a + b)) (ltb (2 * a + b) (2 * b * (r + 1))))
+is_quotient a b r = ltb 0 b && (leb (2 * b * r) (2 * a + b) && ltb (2 * a + b) (2 * b * (r + 1)))
 
-quotient : (a b r : ℕ) → T (is_quotient a b r) → NearestQuotient a b r
+quotient : (a b r : ℕ) → is_quotient a b r ≡ true → NearestQuotient a b r
 unfolding is_quotient
 quotient a b r t =
-    let x = ltb 0 b in
-    let y = leb (2 * b * r) (2 * a + b) in
-    let z = ltb (2 * a + b) (2 * b * (r + 1)) in
-    let u = both_right x (both y z) t in
-    record { positive = ltb→lt 0 b (both_left x (both y z) t); above = leb→le _ _ (both_left y z u); below = ltb→lt _ _ (both_right y z u) }
+    let (positive, rest) = and_parts _ _ t in
+    let (above, below) = and_parts _ _ rest in
+    record { positive = ltb-true _ _ positive; above = leb-true _ _ above; below = ltb-true _ _ below }
 
 -- the first point stands at half the angle of the second
 is_half : Point × Point → Bool
 is_half x =
-    both (is_root (2 ^ 29 * (2 ^ 30 + x.1.cos)) x.0.cos) (is_quotient (2 ^ 29 * x.1.sin) x.0.cos x.0.sin)
+    is_root (2 ^ 29 * (2 ^ 30 + x.1.cos)) x.0.cos && is_quotient (2 ^ 29 * x.1.sin) x.0.cos x.0.sin
 
 -- the first point is the mirror image of the second
 is_mirror : Point × Point → Bool
-is_mirror x = both (eqb x.0.cos x.1.sin) (eqb x.0.sin x.1.cos)
+is_mirror x = eqb x.0.cos x.1.sin && eqb x.0.sin x.1.cos
 
 -- the point at k + 1 with that at twice the angle, and the point at k + 33 with that at the mirrored angle
 doubled : ℕ → Point × Point
@@ -48,37 +45,37 @@ doubled k = (circle (suc k), circle (2 * suc k))
 opposed : ℕ → Point × Point
 opposed k = (circle (33 + k), circle (64 - (33 + k)))
 
-halves : (k : ℕ) → k < 32 → T (is_half (doubled k))
+halves : (k : ℕ) → k < 32 → is_half (doubled k) ≡ true
 unfolding is_half is_root is_quotient doubled circle point halved nearest_root floor_root
-halves = every_at is_half doubled 32 tt
+halves = every_at is_half doubled 32 refl
 
-mirrors : (k : ℕ) → k < 32 → T (is_mirror (opposed k))
+mirrors : (k : ℕ) → k < 32 → is_mirror (opposed k) ≡ true
 unfolding is_mirror opposed circle point halved nearest_root floor_root
-mirrors = every_at is_mirror opposed 32 tt
+mirrors = every_at is_mirror opposed 32 refl
 
 half_cosine : (v : ℕ) → 1 ≤ v → v ≤ 32 → NearestRoot (2 ^ 29 * (2 ^ 30 + cosine (2 * v))) (cosine v)
 unfolding is_half doubled
 half_cosine zero h k = absurd (not-suc-le-zero h)
-half_cosine (suc v) h k = root _ _ (both_left _ _ (halves v k))
+half_cosine (suc v) h k = root _ _ (and_parts _ _ (halves v k)).0
 
 half_sine : (v : ℕ) → 1 ≤ v → v ≤ 32 → NearestQuotient (2 ^ 29 * sine (2 * v)) (cosine v) (sine v)
 unfolding is_half doubled
 half_sine zero h k = absurd (not-suc-le-zero h)
-half_sine (suc v) h k = quotient _ _ _ (both_right _ _ (halves v k))
+half_sine (suc v) h k = quotient _ _ _ (and_parts _ _ (halves v k)).1
 
-mirror : (v : ℕ) → 33 ≤ v → v ≤ 64 → T (is_mirror (circle v, circle (64 - v)))
+mirror : (v : ℕ) → 33 ≤ v → v ≤ 64 → is_mirror (circle v, circle (64 - v)) ≡ true
 unfolding opposed
 mirror v h k =
     let e : 33 + (v - 33) ≡ v = omega arith in
-    subst (λ (n : ℕ). T (is_mirror (circle n, circle (64 - n)))) e (mirrors (v - 33) (omega arith))
+    subst (λ (n : ℕ). is_mirror (circle n, circle (64 - n)) ≡ true) e (mirrors (v - 33) (omega arith))
 
 pub mirror_cosine : (v : ℕ) → 33 ≤ v → v ≤ 64 → cosine v ≡ sine (64 - v)
 unfolding is_mirror
-mirror_cosine v h k = eqb→eq _ _ (both_left _ _ (mirror v h k))
+mirror_cosine v h k = eqb-true _ _ (and_parts _ _ (mirror v h k)).0
 
 pub mirror_sine : (v : ℕ) → 33 ≤ v → v ≤ 64 → sine v ≡ cosine (64 - v)
 unfolding is_mirror
-mirror_sine v h k = eqb→eq _ _ (both_right _ _ (mirror v h k))
+mirror_sine v h k = eqb-true _ _ (and_parts _ _ (mirror v h k)).1
 
 pub solves : Circle cosine sine
 unfolding circle point
@@ -98,12 +95,12 @@ settles d zero = true
 settles zero (suc v) = false
 settles (suc d) (suc v) =
     let double = settles d (2 * suc v) in
-    let image = both (leb (suc v) 64) (settles d (64 - suc v)) in
+    let image = leb (suc v) 64 && settles d (64 - suc v) in
     cond (leb (suc v) 32) double image
 
-all_settle : (v : ℕ) → v < 65 → T (settles 14 v)
+all_settle : (v : ℕ) → v < 65 → settles 14 v ≡ true
 unfolding settles
-all_settle = every_at (settles 14) (λ v. v) 65 tt
+all_settle = every_at (settles 14) (λ v. v) 65 refl
 
 -- two solutions agree at v
 abbrev Agree : (c s c' s' : ℕ → ℕ) → ℕ → Type 0
@@ -120,19 +117,18 @@ agree_mirror : (c s c' s' : ℕ → ℕ) → Circle c s → Circle c' s' → (v 
 agree_mirror c s c' s' p q v h k e =
     (p.mirror_cosine v h k ∙ e.1 ∙ sym (q.mirror_cosine v h k), p.mirror_sine v h k ∙ e.0 ∙ sym (q.mirror_sine v h k))
 
-agree : (c s c' s' : ℕ → ℕ) → Circle c s → Circle c' s' → (d v : ℕ) → T (settles d v) → Agree c s c' s' v
+agree : (c s c' s' : ℕ → ℕ) → Circle c s → Circle c' s' → (d v : ℕ) → settles d v ≡ true → Agree c s c' s' v
 unfolding settles
 agree c s c' s' p q d zero t = (p.start_cosine ∙ sym q.start_cosine, p.start_sine ∙ sym q.start_sine)
-agree c s c' s' p q zero (suc v) t = absurd t
+agree c s c' s' p q zero (suc v) t = absurd (clash t)
 agree c s c' s' p q (suc d) (suc v) t =
     step (leb (suc v) 32) refl (agree c s c' s' p q d (2 * suc v)) (agree c s c' s' p q d (64 - suc v)) t
   where
-    step : (e : Bool) → leb (suc v) 32 ≡ e → (T (settles d (2 * suc v)) → Agree c s c' s' (2 * suc v)) → (T (settles d (64 - suc v)) → Agree c s c' s' (64 - suc v)) → T (cond e (settles d (2 * suc v)) (both (leb (suc v) 64) (settles d (64 - suc v)))) → Agree c s c' s' (suc v)
-    step true e f g u = agree_half c s c' s' p q (suc v) (omega arith) (leb→le _ _ (subst T (sym e) tt)) (f u)
+    step : (e : Bool) → leb (suc v) 32 ≡ e → (settles d (2 * suc v) ≡ true → Agree c s c' s' (2 * suc v)) → (settles d (64 - suc v) ≡ true → Agree c s c' s' (64 - suc v)) → cond e (settles d (2 * suc v)) (leb (suc v) 64 && settles d (64 - suc v)) ≡ true → Agree c s c' s' (suc v)
+    step true e f g u = agree_half c s c' s' p q (suc v) (omega arith) (leb-true _ _ e) (f u)
     step false e f g u =
-        let n : suc v ≤ 64 = leb→le _ _ (both_left _ _ u) in
-        let m : 33 ≤ suc v = nleb→lt _ _ (subst (λ (b : Bool). T (not b)) (sym e) tt) in
-        agree_mirror c s c' s' p q (suc v) m n (g (both_right _ _ u))
+        let (n, rest) = and_parts _ _ u in
+        agree_mirror c s c' s' p q (suc v) (leb-false _ _ e) (leb-true _ _ n) (g rest)
 
 pub determined : CircleDetermined
 determined =

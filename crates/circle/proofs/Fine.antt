@@ -1,5 +1,6 @@
 -- The fine twiddles: their rules have exactly one solution; quarter turns, period, sizes and products.
-use Rattle.std.proofs.Common.{◌≡◌, ℕ, zero, suc, ◌+◌, ◌*◌, ◌/◌, ◌%◌, ◌^◌, ◌<◌, ◌≤◌, Bool, T, leb, pos, ◌-ℤ◌, neg_ℤ, nat_abs, sym, ap, ◌∙◌, arith, leb→le}
+use Rattle.std.proofs.Common.{◌≡◌, ℕ, zero, suc, ◌+◌, ◌*◌, ◌/◌, ◌%◌, ◌^◌, ◌<◌, ◌≤◌, Bool, true, ◌&&◌, leb, pos, ◌-ℤ◌, neg_ℤ, nat_abs, sym, refl, ap, ◌∙◌, arith}
+use Rattle.std.proofs.lemmas.Bool.{and_parts, leb-true}
 use Rattle.integers.specs.declared.Complex.{Complex}
 use Rattle.integers.specs.Complex.{complex, quarter_turn_of, ◌⊗◌}
 use Rattle.circle.specs.declared.Point.{Point}
@@ -7,8 +8,9 @@ use Rattle.circle.specs.Near.{Near, sizes, multiple, turned}
 use Rattle.circle.specs.Circle.{Circle, circle, cosine, sine, point, halved, nearest_root, floor_root}
 use Rattle.circle.specs.Fine.{FineTwiddles, FineDetermined, FineProducts, fine}
 use Rattle.circle.proofs.Circle as Circles
-use Rattle.circle.proofs.Table.{both, both_left, both_right, every_at, grid_at}
-use Rattle.circle.proofs.Turns.{complex_same, turned_add, turned_mod, turned_four, turned_mul, mul_turned, multiple_turned, sizes_turned, near_turned}
+use Rattle.circle.proofs.Table.{every_at, grid_at}
+use Rattle.integers.proofs.ComplexRing.{complex_same}
+use Rattle.circle.proofs.Turns.{turned_add, turned_mod, turned_four, turned_mul, mul_turned, multiple_turned, sizes_turned, near_turned}
 
 -- (c, −s) at v
 abbrev pub first_quarter : ℕ → Complex
@@ -63,7 +65,7 @@ only_first : (c s : ℕ → ℕ) (f : ℕ → Complex) → Circle c s → FineTw
 only_first c s f q p u h =
     let e : c u ≡ cosine u = (Circles.determined).only_cosine c s q u (omega arith) in
     let g : s u ≡ sine u = (Circles.determined).only_sine c s q u (omega arith) in
-    p.first u h ∙ complex_same _ _ _ _ (ap pos e) (ap (λ (n : ℕ). neg_ℤ (pos n)) g) ∙ sym (fine_first u h)
+    p.first u h ∙ complex_same (ap pos e) (ap (λ (n : ℕ). neg_ℤ (pos n)) g) ∙ sym (fine_first u h)
 
 only : (c s : ℕ → ℕ) (f : ℕ → Complex) → Circle c s → FineTwiddles c s f → (u : ℕ) → f u ≡ fine u
 only c s f q p u =
@@ -76,14 +78,14 @@ determined = record { solves = solves; only = only }
 is_short : Complex → Bool
 is_short x = leb (sizes x) (3 * 2 ^ 29)
 
-shorts : (u : ℕ) → u < 64 → T (is_short (fine u))
+shorts : (u : ℕ) → u < 64 → is_short (fine u) ≡ true
 unfolding is_short fine turned circle point halved nearest_root floor_root
-shorts = every_at is_short fine 64 tt
+shorts = every_at is_short fine 64 refl
 
 pub fine_sizes : (u : ℕ) → sizes (fine u) ≤ 3 * 2 ^ 29
 unfolding is_short
 fine_sizes u =
-    let h : sizes (fine (u % 64)) ≤ 3 * 2 ^ 29 = leb→le _ _ (shorts (u % 64) (omega arith)) in
+    let h : sizes (fine (u % 64)) ≤ 3 * 2 ^ 29 = leb-true _ _ (shorts (u % 64) (omega arith)) in
     rw (fine_split u, sizes_turned) h
 
 -- the first quarter's twiddle over a point
@@ -104,17 +106,17 @@ turned_sizes u k p x e g =
 -- products: one computed test of the first quarter's pairs, carried on by turns
 is_product : Complex → Complex → Complex → Bool
 is_product x y z =
-    both (leb (nat_abs ((x ⊗ y).re -ℤ (multiple (2 ^ 30) z).re)) (8 * 2 ^ 30))
-    (leb (nat_abs ((x ⊗ y).im -ℤ (multiple (2 ^ 30) z).im)) (8 * 2 ^ 30))
+    leb (nat_abs ((x ⊗ y).re -ℤ (multiple (2 ^ 30) z).re)) (8 * 2 ^ 30)
+    && leb (nat_abs ((x ⊗ y).im -ℤ (multiple (2 ^ 30) z).im)) (8 * 2 ^ 30)
 
-products : (u v : ℕ) → u < 64 → v < 64 → T (is_product (fine u) (fine v) (fine (u + v)))
+products : (u v : ℕ) → u < 64 → v < 64 → is_product (fine u) (fine v) (fine (u + v)) ≡ true
 unfolding is_product fine turned circle point halved nearest_root floor_root
-products = grid_at is_product fine 64 128 tt
+products = grid_at is_product fine 64 128 refl
 
 first_product : (u v : ℕ) → u < 64 → v < 64 → Near (8 * 2 ^ 30) (fine u ⊗ fine v) (multiple (2 ^ 30) (fine (u + v)))
 unfolding is_product
 first_product u v h k =
-    record { re = leb→le _ _ (both_left _ _ (products u v h k)); im = leb→le _ _ (both_right _ _ (products u v h k)) }
+    let (re, im) = and_parts _ _ (products u v h k) in record { re = leb-true _ _ re; im = leb-true _ _ im }
 
 pub fine_product : FineProducts
 fine_product u v =

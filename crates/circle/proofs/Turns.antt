@@ -1,14 +1,12 @@
 -- Quarter turns: four of them change nothing; they pass through products and multiples, and keep sizes and distances.
-use Rattle.std.proofs.Common.{◌≡◌, ℕ, zero, suc, ◌+◌, ◌*◌, ◌/◌, ◌%◌, ◌≤◌, ℤ, pos, negsuc, ◌-ℤ◌, ◌*ℤ◌, neg_ℤ, nat_abs, sym, refl, ap, ◌∙◌, suc-add, zero-add, add-one, arith}
+use Rattle.std.proofs.Common.{◌≡◌, ℕ, zero, suc, ◌+◌, ◌*◌, ◌/◌, ◌%◌, ◌≤◌, pos, ◌-ℤ◌, nat_abs, sym, refl, ap, ◌∙◌, suc-add, zero-add, add-one, arith}
 use borrow.Author.Differences.{ints}
-use lib.IntN.{neg_ℤ-neg_ℤ, *ℤ_comm, *ℤ-negsuc, zero-*ℤ}
+use lib.IntN.{neg_ℤ-neg_ℤ}
 use Rattle.integers.specs.declared.Complex.{Complex}
-use Rattle.integers.specs.Complex.{complex, quarter_turn_of, ◌⊗◌}
+use Rattle.integers.specs.Complex.{quarter_turn_of, ◌⊗◌}
+use Rattle.integers.proofs.Ring.{neg_left, neg_right}
+use Rattle.integers.proofs.ComplexRing.{complex_same}
 use Rattle.circle.specs.Near.{Near, sizes, multiple, turned}
-
--- equal components make equal numbers
-pub complex_same : (a b c d : ℤ) → a ≡ c → b ≡ d → complex a b ≡ complex c d
-complex_same a b c d e f = ap (λ (x : ℤ). complex x b) e ∙ ap (complex c) f
 
 pub turned_add : (j k : ℕ) (x : Complex) → turned (j + k) x ≡ turned j (turned k x)
 unfolding turned
@@ -21,7 +19,7 @@ turned_next k x = rw add-one
 
 pub turned_four : (x : Complex) → turned 4 x ≡ x
 unfolding turned
-turned_four x = complex_same _ _ _ _ (neg_ℤ-neg_ℤ x.re) (neg_ℤ-neg_ℤ x.im)
+turned_four x = complex_same (neg_ℤ-neg_ℤ x.re) (neg_ℤ-neg_ℤ x.im)
 
 turned_fours : (q r : ℕ) (x : Complex) → turned (4 * q + r) x ≡ turned r x
 turned_fours zero r x = ap (λ (n : ℕ). turned n x) (omega arith)
@@ -34,29 +32,17 @@ turned_mod k x =
     let e : 4 * (k / 4) + k % 4 ≡ k = omega arith in
     sym (turned_fours (k / 4) (k % 4) x) ∙ ap (λ (n : ℕ). turned n x) e
 
--- products with an opposite
-negsuc_mul : (n : ℕ) (b : ℤ) → negsuc n *ℤ b ≡ neg_ℤ (pos (suc n) *ℤ b)
-negsuc_mul n b = *ℤ_comm (negsuc n) b ∙ *ℤ-negsuc b n ∙ ap neg_ℤ (*ℤ_comm b (pos (suc n)))
-
-pub neg_mul : (a b : ℤ) → neg_ℤ a *ℤ b ≡ neg_ℤ (a *ℤ b)
-neg_mul (pos zero) b = zero-*ℤ b ∙ ap neg_ℤ (sym (zero-*ℤ b))
-neg_mul (pos (suc n)) b = negsuc_mul n b
-neg_mul (negsuc n) b = sym (neg_ℤ-neg_ℤ (pos (suc n) *ℤ b)) ∙ ap neg_ℤ (sym (negsuc_mul n b))
-
-pub mul_neg : (a b : ℤ) → a *ℤ neg_ℤ b ≡ neg_ℤ (a *ℤ b)
-mul_neg a b = *ℤ_comm a (neg_ℤ b) ∙ neg_mul b a ∙ ap neg_ℤ (*ℤ_comm b a)
-
 turn_mul : (x y : Complex) → quarter_turn_of x ⊗ y ≡ quarter_turn_of (x ⊗ y)
 turn_mul x y =
-    let e = neg_mul x.re y.re in
-    let f = neg_mul x.re y.im in
-    complex_same _ _ _ _ (omega (arith, ints)) (omega (arith, ints))
+    let e = neg_left x.re y.re in
+    let f = neg_left x.re y.im in
+    complex_same (omega (arith, ints)) (omega (arith, ints))
 
 mul_turn : (x y : Complex) → x ⊗ quarter_turn_of y ≡ quarter_turn_of (x ⊗ y)
 mul_turn x y =
-    let e = mul_neg x.re y.re in
-    let f = mul_neg x.im y.re in
-    complex_same _ _ _ _ (omega (arith, ints)) (omega (arith, ints))
+    let e = neg_right x.re y.re in
+    let f = neg_right x.im y.re in
+    complex_same (omega (arith, ints)) (omega (arith, ints))
 
 pub turned_mul : (k : ℕ) (x y : Complex) → turned k x ⊗ y ≡ turned k (x ⊗ y)
 unfolding turned
@@ -72,7 +58,7 @@ pub multiple_turned : (n k : ℕ) (x : Complex) → multiple n (turned k x) ≡ 
 unfolding turned
 multiple_turned n zero x = refl
 multiple_turned n (suc k) x =
-    complex_same _ _ _ _ refl (mul_neg (pos n) (turned k x).re) ∙ ap quarter_turn_of (multiple_turned n k x)
+    complex_same refl (neg_right (pos n) (turned k x).re) ∙ ap quarter_turn_of (multiple_turned n k x)
 
 pub sizes_turned : (k : ℕ) (x : Complex) → sizes (turned k x) ≡ sizes x
 unfolding turned

@@ -11,7 +11,8 @@ use Rattle.circle.specs.Twiddle.{Twiddles, TwiddlesDetermined, rounded, twiddle}
 use Rattle.circle.specs.Spread.{spread}
 use Rattle.circle.proofs.Unique.{signed_unique}
 use Rattle.circle.proofs.Fine.{fine_period, fine_mod, fine_turn, fine_sizes}
-use Rattle.circle.proofs.Turns.{complex_same, mul_neg}
+use Rattle.integers.proofs.Ring.{neg_right, abs_times}
+use Rattle.integers.proofs.ComplexRing.{complex_same}
 
 pub rounded_nearest : (a : ℤ) → NearestSigned a (2 ^ 30) (rounded a)
 unfolding rounded
@@ -30,10 +31,7 @@ rounded_near a r h =
     elim h.sign [ inl s ↦ omega (arith, ints) | inr s ↦ omega (arith, ints) ]
 
 pub abs_multiple : (q : ℕ) (x : ℤ) → nat_abs (pos q *ℤ x) ≡ q * nat_abs x
-abs_multiple q (pos n) = refl
-abs_multiple q (negsuc n) =
-    let e : nat_abs (neg_ℤ (pos (q * suc n))) ≡ q * suc n = omega (arith, ints) in
-    ap nat_abs (pos-*ℤ-negsuc q n) ∙ e
+abs_multiple q x = abs_times (pos q) x
 
 never_positive : (q : ℕ) (x : ℤ) → x <ℤ pos 0 → (pos q *ℤ x) ≤ℤ pos 0
 never_positive q (pos n) h = let z : ◌≡◌ {A = ℕ} 0 1 = omega (arith, ints) in absurd (omega arith)
@@ -68,7 +66,7 @@ solves scale = record { re = λ u. rounded_nearest (pos scale *ℤ (fine u).re);
 
 only : (scale : ℕ) (g : ℕ → Complex) → Twiddles scale g → (u : ℕ) → g u ≡ twiddle scale u
 only scale g p u =
-    complex_same _ _ _ _ (signed_unique _ _ _ _ (p.re u) ((solves scale).re u)) (signed_unique _ _ _ _ (p.im u) ((solves scale).im u))
+    complex_same (signed_unique _ _ _ _ (p.re u) ((solves scale).re u)) (signed_unique _ _ _ _ (p.im u) ((solves scale).im u))
 
 pub determined : TwiddlesDetermined
 determined = record { solves = solves; only = only }
@@ -96,7 +94,7 @@ pub twiddle_found : (scale u : ℕ) (f : Complex) (a b : ℤ) → f ≡ fine u �
 twiddle_found scale u f a b e p q =
     let x : a ≡ (twiddle scale u).re = signed_unique _ _ _ _ (rw e at p) ((solves scale).re u) in
     let y : b ≡ (twiddle scale u).im = signed_unique _ _ _ _ (rw e at q) ((solves scale).im u) in
-    let h : complex a b ≡ twiddle scale u = complex_same _ _ _ _ x y in
+    let h : complex a b ≡ twiddle scale u = complex_same x y in
     record {
       value = h;
       size = subst (λ (z : Complex). sizes z ≤ spread scale) (sym h) (twiddle_sizes scale u);
@@ -120,7 +118,7 @@ rounded_neg (negsuc n) = sym (neg_ℤ-neg_ℤ (pos ((suc n + 2 ^ 29) / 2 ^ 30)))
 pub twiddle_turn : (scale u : ℕ) → twiddle scale (u + 64) ≡ quarter_turn_of (twiddle scale u)
 unfolding twiddle
 twiddle_turn scale u =
-    rw (fine_turn u) (complex_same _ _ _ _ refl (ap rounded (mul_neg (pos scale) (fine u).re) ∙ rounded_neg (pos scale *ℤ (fine u).re)))
+    rw (fine_turn u) (complex_same refl (ap rounded (neg_right (pos scale) (fine u).re) ∙ rounded_neg (pos scale *ℤ (fine u).re)))
 
 -- 64·k further on stands what was turned k quarter turns
 pub twiddle_turned : (scale u k : ℕ) → twiddle scale (u + 64 * k) ≡ turned k (twiddle scale u)

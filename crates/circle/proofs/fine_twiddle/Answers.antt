@@ -2,13 +2,14 @@ use Rattle.std.proofs.Common.{ap, ◌∙◌, arith}
 use borrow.Author.Differences.{ints}
 use Rattle.integers.specs.Complex.{quarter_turn_of}
 use Rattle.circle.specs.Near.{turned}
-use Rattle.circle.proofs.Turns.{complex_same, turned_next}
+use Rattle.integers.proofs.ComplexRing.{complex_same}
+use Rattle.circle.proofs.Turns.{turned_next}
 use Rattle.circle.proofs.Fine.{fine_found, turned_sizes}
 use Rattle.circle.proofs.fine_twiddle.Goals as goal
 
 pub loop-init : goal.loop-init
 unfolding turned
-loop-init c = complex_same _ _ _ _ (omega (arith, ints)) (omega (arith, ints))
+loop-init c = complex_same (omega (arith, ints)) (omega (arith, ints))
 
 pub quarter_turn-x-requires : goal.quarter_turn-x-requires
 quarter_turn-x-requires c =
