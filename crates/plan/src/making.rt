@@ -8,7 +8,7 @@ use refusal::Refusal;
 
 impl Plan {
     // The plan of these numbers, or the earliest refusal that applies: size, sample scale,
-    // twiddle scale.
+    // twiddle scale. The numbers come one by one: a struct of them is no plainer, a second Plan without its facts.
     pub fn new(
         method: Method,
         size: u64,

@@ -6,7 +6,7 @@ use super::method::Method;
 use std::fmt;
 
 impl Method {
-    // Whether the method has transforms of this size.
+    // Whether the method has transforms of this size. Lists: a test for powers is no plainer, since radix 4 takes every second one.
     pub fn allows(self, size: u64) -> bool
         ensures { result ≡ sized self size }
     {

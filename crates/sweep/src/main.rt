@@ -31,31 +31,24 @@ fn print_twiddles(rt: &impl Print, scale: u32) -> io::Result<()> {
     Ok(())
 }
 
-fn print_plan(
-    rt: &impl Print,
-    method: Method,
-    size: u64,
-    sample: u64,
-    twiddle: u64,
-) -> io::Result<()> {
-    match Plan::new(method, size, sample, twiddle) {
-        Ok(plan) => {
-            let Figures {
-                scale,
-                bound,
-                distance,
-            } = plan.figures();
-            let least = plan.least_modulus();
-            println!(rt; "{method} {size} {sample} {twiddle}: {scale} {bound} {distance} {least}")
-        }
-        Err(refusal) => println!(rt; "{method} {size} {sample} {twiddle}: {refusal}"),
-    }
+fn print_figures(rt: &impl Print, plan: Plan) -> io::Result<()> {
+    let Figures {
+        scale,
+        bound,
+        distance,
+    } = plan.figures();
+    let least = plan.least_modulus();
+    println!(rt; "{scale} {bound} {distance} {least}")
 }
 
 fn print_scales(rt: &impl Print, method: Method, size: u64) -> io::Result<()> {
     for sample in [0, 1, 32_767, 32_768] {
         for twiddle in [0, 1, 32_768, 32_769] {
-            print_plan(rt, method, size, sample, twiddle)?;
+            print!(rt; "{method} {size} {sample} {twiddle}: ")?;
+            match Plan::new(method, size, sample, twiddle) {
+                Ok(plan) => print_figures(rt, plan)?,
+                Err(refusal) => println!(rt; "{refusal}")?,
+            }
         }
     }
     Ok(())
