@@ -38,7 +38,7 @@ sum_turned k zero x = turned_none k
 sum_turned k (suc n) x = turned_sum k (sum_below n x) (x n) ∙ ap (λ (y : Complex). y ⊕ turned k (x n)) (sum_turned k n x)
 
 -- (a + b) + (c + d) = (a + c) + (b + d)
-middle : (a b c d : Complex) → (a ⊕ b) ⊕ (c ⊕ d) ≡ (a ⊕ c) ⊕ (b ⊕ d)
+pub middle : (a b c d : Complex) → (a ⊕ b) ⊕ (c ⊕ d) ≡ (a ⊕ c) ⊕ (b ⊕ d)
 middle a b c d = complex_same (omega (arith, ints)) (omega (arith, ints))
 
 sum_both : (n : ℕ) (x y : ℕ → Complex) → sum_below n x ⊕ sum_below n y ≡ sum_below n (λ i. x i ⊕ y i)
