@@ -15,6 +15,22 @@ pub record Unsealable (size space : ℕ) (taken : Bool) : Type 0 where
   pub within : size ≤ space
   pub strange : taken ≡ false
 
+-- Whether m is within a limit: large where its size is above it, nothing else.
+abbrev pub Limits : ℕ → ℤ → Result Unit Refusal → Type 0
+Limits limit m (Ok x) = unsigned_abs m ≤ limit
+Limits limit m (Err e) = Refuses (limit < unsigned_abs m) ⊥ e
+
+-- m is within half of n, and the word is taken
+pub record Admitted (n : ℕ) (m : ℤ) (taken : Bool) : Type 0 where
+  pub within : unsigned_abs m ≤ half n
+  pub known : taken ≡ true
+
+-- Whether m can be sealed modulo n with a word that is taken or not: large where m is above half of n, mask where it is not and the
+-- word is not taken, nothing else.
+abbrev pub Admits : ℕ → ℤ → Bool → Result Unit Refusal → Type 0
+Admits n m taken (Ok x) = Admitted n m taken
+Admits n m taken (Err e) = Refuses (half n < unsigned_abs m) (Unsealable (unsigned_abs m) (half n) taken) e
+
 -- the sample m is sealed under the limit
 pub record SealedWithin {Number : Type 0} (s : Meaning Number) (limit : ℕ) (m : ℤ) (word : ℕ) (x : Number) : Type 0 where
   pub limited : unsigned_abs m ≤ limit

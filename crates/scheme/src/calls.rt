@@ -8,6 +8,11 @@ use refusal::Refusal;
 // well-formed number hides one residue, from 0 to N − 1. A scheme may keep books of its calls, but no call changes its meaning: N,
 // the mask words that it takes, which numbers are well formed and what they hide. The answers of sum, opposite and open on numbers
 // that are not well formed are free. These contracts are all that is assumed of a scheme.
+//
+// Kept, here and in every function over a scheme of whatever crate: the clause `frame` stands at each, since it ties the scheme before
+// the call to the scheme after it, and a type's invariant speaks of one moment.
+// Kept likewise: `wf a ≡ true →` stands before what an answer owes. A block may hold any numbers and no public function has a
+// `requires`, so a type of well-formed numbers would ask more of callers.
 pub trait Scheme {
     // a hidden number
     type Number: Copy;
@@ -52,3 +57,6 @@ pub trait Scheme {
 
     ghost sound: { (s : Self) → Sound (meaning s) };
 }
+
+// A hidden complex number: two numbers, the real part first.
+pub type Pair<S> = (<S as Scheme>::Number, <S as Scheme>::Number);

@@ -10,18 +10,18 @@ fn repeated<S: Scheme>(s: &mut S, size: u64, x: S::Number) -> S::Number
     ensures value { (S.meaning s.old).wf x ≡ true → (v : View) → Stands (S.meaning s.old) v (pos size *ℤ read (S.meaning s.old) v x) result }
     ensures frame { S.meaning s.new ≡ S.meaning s.old }
 {
-    if size == 0 {
-        return s.zero();
-    }
-    if size == 1 {
-        return x;
-    }
-    let above = repeated(s, size / 2, x);
-    let twice = s.sum(above, above);
-    if size % 2 == 1 {
-        s.sum(twice, x)
-    } else {
-        twice
+    match size {
+        0 => s.zero(),
+        1 => x,
+        _ => {
+            let above = repeated(s, size / 2, x);
+            let twice = s.sum(above, above);
+            if size % 2 == 1 {
+                s.sum(twice, x)
+            } else {
+                twice
+            }
+        }
     }
 }
 

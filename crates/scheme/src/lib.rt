@@ -6,8 +6,8 @@ mod hidden;
 pub mod pairs;
 mod sealing;
 
-pub use calls::Scheme;
+pub use calls::{Pair, Scheme};
 pub use hidden::{difference, multiple};
 pub use sealing::{
-    modulus_of, open_centred, seal_and_open, seal_residue, seal_within, sealed_opens,
+    admit, modulus_of, open_centred, seal_and_open, seal_residue, seal_within, sealed_opens,
 };

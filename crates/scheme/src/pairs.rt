@@ -1,17 +1,20 @@
 // Hidden complex numbers: pairs of hidden numbers, real part first, under every scheme.
+//
+// Kept: two calls, one for each component. A helper would be handed the scheme inside each closure, as in
+// `each(s, a, |s, x| hidden::multiple(s, c, x))`, another one two operands, and neither is shorter than the two calls.
 ghost use Rattle.std.specs.Prelude.{◌≡◌};
 ghost use Rattle.integers.specs.Complex.{◌⊕◌, ◌⊖◌, ◌⊗◌, ◌⊙◌, quarter_turn_of};
 ghost use Rattle.scheme.specs.Meaning.{View};
 ghost use Rattle.scheme.specs.Hidden.{StandsPair, WellFormed, read_pair, well_formed};
 ghost use Rattle.scheme.specs.Sealing.{SealsPair, means_pair};
 
-use crate::calls::Scheme;
+use crate::calls::{Pair, Scheme};
 use crate::{hidden, sealing};
 use integers::Complex;
 use refusal::Refusal;
 
 // Whether both components are well formed: both are tested.
-pub fn test<S: Scheme>(s: &mut S, a: (S::Number, S::Number)) -> bool
+pub fn test<S: Scheme>(s: &mut S, a: Pair<S>) -> bool
     ensures value { result ≡ well_formed (S.meaning s.old) a }
     ensures frame { S.meaning s.new ≡ S.meaning s.old }
 {
@@ -21,11 +24,7 @@ pub fn test<S: Scheme>(s: &mut S, a: (S::Number, S::Number)) -> bool
 }
 
 // The sum: one sum for each component.
-pub fn sum<S: Scheme>(
-    s: &mut S,
-    a: (S::Number, S::Number),
-    b: (S::Number, S::Number),
-) -> (S::Number, S::Number)
+pub fn sum<S: Scheme>(s: &mut S, a: Pair<S>, b: Pair<S>) -> Pair<S>
     ensures value { WellFormed (S.meaning s.old) a → WellFormed (S.meaning s.old) b → (v : View) → StandsPair (S.meaning s.old) v (read_pair (S.meaning s.old) v a ⊕ read_pair (S.meaning s.old) v b) result }
     ensures frame { S.meaning s.new ≡ S.meaning s.old }
 {
@@ -35,11 +34,7 @@ pub fn sum<S: Scheme>(
 }
 
 // The difference: one opposite and one sum for each component.
-pub fn difference<S: Scheme>(
-    s: &mut S,
-    a: (S::Number, S::Number),
-    b: (S::Number, S::Number),
-) -> (S::Number, S::Number)
+pub fn difference<S: Scheme>(s: &mut S, a: Pair<S>, b: Pair<S>) -> Pair<S>
     ensures value { WellFormed (S.meaning s.old) a → WellFormed (S.meaning s.old) b → (v : View) → StandsPair (S.meaning s.old) v (read_pair (S.meaning s.old) v a ⊖ read_pair (S.meaning s.old) v b) result }
     ensures frame { S.meaning s.new ≡ S.meaning s.old }
 {
@@ -49,7 +44,7 @@ pub fn difference<S: Scheme>(
 }
 
 // The multiple by a whole number: one multiple for each component.
-pub fn multiple<S: Scheme>(s: &mut S, c: i64, a: (S::Number, S::Number)) -> (S::Number, S::Number)
+pub fn multiple<S: Scheme>(s: &mut S, c: i64, a: Pair<S>) -> Pair<S>
     ensures value { WellFormed (S.meaning s.old) a → (v : View) → StandsPair (S.meaning s.old) v (c ⊙ read_pair (S.meaning s.old) v a) result }
     ensures frame { S.meaning s.new ≡ S.meaning s.old }
 {
@@ -59,11 +54,7 @@ pub fn multiple<S: Scheme>(s: &mut S, c: i64, a: (S::Number, S::Number)) -> (S::
 }
 
 // The product by a complex whole number: four multiples, two sums, one opposite.
-pub fn product<S: Scheme>(
-    s: &mut S,
-    w: Complex,
-    a: (S::Number, S::Number),
-) -> (S::Number, S::Number)
+pub fn product<S: Scheme>(s: &mut S, w: Complex, a: Pair<S>) -> Pair<S>
     ensures value { WellFormed (S.meaning s.old) a → (v : View) → StandsPair (S.meaning s.old) v (w ⊗ read_pair (S.meaning s.old) v a) result }
     ensures frame { S.meaning s.new ≡ S.meaning s.old }
 {
@@ -77,7 +68,7 @@ pub fn product<S: Scheme>(
 }
 
 // The product by −j: one opposite.
-pub fn turn<S: Scheme>(s: &mut S, a: (S::Number, S::Number)) -> (S::Number, S::Number)
+pub fn turn<S: Scheme>(s: &mut S, a: Pair<S>) -> Pair<S>
     ensures value { WellFormed (S.meaning s.old) a → (v : View) → StandsPair (S.meaning s.old) v (quarter_turn_of (read_pair (S.meaning s.old) v a)) result }
     ensures frame { S.meaning s.new ≡ S.meaning s.old }
 {
@@ -91,21 +82,20 @@ pub fn seal<S: Scheme>(
     limit: u64,
     sample: Complex,
     words: (u64, u64),
-) -> Result<(S::Number, S::Number), Refusal>
+) -> Result<Pair<S>, Refusal>
     ensures value { SealsPair (S.meaning s.old) limit sample words result }
     ensures frame { S.meaning s.new ≡ S.meaning s.old }
 {
     let room = limit.min(sealing::modulus_of(s).half());
-    if sample.re.unsigned_abs() > room || sample.im.unsigned_abs() > room {
-        return Err(Refusal::Large);
-    }
+    sealing::within(sample.re, room)?;
+    sealing::within(sample.im, room)?;
     let re = s.seal(sample.re, words.0)?;
     let im = s.seal(sample.im, words.1)?;
     Ok((re, im))
 }
 
 // The complex whole number that a hidden pair means.
-pub fn open<S: Scheme>(s: &mut S, a: (S::Number, S::Number)) -> Complex
+pub fn open<S: Scheme>(s: &mut S, a: Pair<S>) -> Complex
     ensures value { WellFormed (S.meaning s.old) a → result ≡ means_pair (S.meaning s.old) a }
     ensures frame { S.meaning s.new ≡ S.meaning s.old }
 {

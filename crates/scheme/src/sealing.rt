@@ -1,7 +1,7 @@
 // Sealing samples under a limit, and opening numbers as whole numbers, under every scheme.
 ghost use Rattle.std.specs.Prelude.{◌≡◌, true, [], pos};
 ghost use Rattle.scheme.specs.Hidden.{Stands};
-ghost use Rattle.scheme.specs.Sealing.{SealsWithin, Reopens, SealedOpens, means};
+ghost use Rattle.scheme.specs.Sealing.{Limits, Admits, SealsWithin, Reopens, SealedOpens, means};
 
 use crate::calls::Scheme;
 use integers::Modulus;
@@ -12,10 +12,27 @@ pub fn modulus_of<S: Scheme>(s: &mut S) -> Modulus
     ensures value { result.n ≡ (S.meaning s.old).modulus }
     ensures frame { S.meaning s.new ≡ S.meaning s.old }
 {
-    match Modulus::new(s.modulus()) {
-        Some(modulus) => modulus,
-        None => unreachable(),
+    Modulus::new(s.modulus()).unwrap()
+}
+
+// Refuses with Large where the size of m is above the limit, and with nothing else.
+pub(crate) fn within(m: i64, limit: u64) -> Result<(), Refusal>
+    ensures { Limits limit m result }
+{
+    if m.unsigned_abs() > limit {
+        Err(Refusal::Large)
+    } else {
+        Ok(())
     }
+}
+
+// What the seal of a scheme with this modulus refuses, for a mask word that is taken or not: with Large where the size of m is above
+// (N − 1)/2, else with Mask where the word is not taken, and with nothing else.
+pub fn admit(modulus: Modulus, m: i64, taken: bool) -> Result<(), Refusal>
+    ensures { Admits modulus.n m taken result }
+{
+    within(m, modulus.half())?;
+    taken.then_some(()).ok_or(Refusal::Mask)
 }
 
 // Seals the sample m with a mask word. Refuses with Large where the size of m is above the limit or above (N − 1)/2, else with Mask
@@ -29,9 +46,7 @@ pub fn seal_within<S: Scheme>(
     ensures value { SealsWithin (S.meaning s.old) limit m word result }
     ensures frame { S.meaning s.new ≡ S.meaning s.old }
 {
-    if m.unsigned_abs() > limit {
-        return Err(Refusal::Large);
-    }
+    within(m, limit)?;
     s.seal(m, word)
 }
 
@@ -41,10 +56,7 @@ pub fn seal_residue<S: Scheme>(s: &mut S, r: u64) -> S::Number
     ensures frame { S.meaning s.new ≡ S.meaning s.old }
 {
     let modulus = modulus_of(s);
-    match s.seal(modulus.centred(r), 1) {
-        Ok(x) => x,
-        Err(_) => unreachable(),
-    }
+    s.seal(modulus.centred(r), 1).unwrap()
 }
 
 // The whole number that a hidden number means: the hidden residue up to (N − 1)/2 itself, above it less N.

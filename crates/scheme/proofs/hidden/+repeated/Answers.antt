@@ -3,20 +3,20 @@ use Rattle.scheme.specs.Meaning.{Sum}
 use Rattle.scheme.proofs.Standing.{none_stands, one_stands, even_stands, odd_stands}
 use Rattle.scheme.proofs.hidden.+repeated.Goals as goal
 
-pub returns-then-size-eq0 : goal.returns-then-size-eq0
-returns-then-size-eq0 g t c =
+pub returns-in-0 : goal.returns-in-0
+returns-in-0 g t c =
     let s = g.S.Scheme.meaning c.args.s.now in
     let k = g.met.S.Scheme.sound c.args.s.now in
     record { value = λ w v. none_stands s k v c.args.size c.args.x c.zero.result (search rules) c.zero.ensures.value; frame = c.zero.ensures.frame }
 
-pub returns-then-size-eq1 : goal.returns-then-size-eq1
-returns-then-size-eq1 g t c =
+pub returns-in-1 : goal.returns-in-1
+returns-in-1 g t c =
     let s = g.S.Scheme.meaning c.args.s.now in
     let k = g.met.S.Scheme.sound c.args.s.now in
     record { value = λ w v. one_stands s k v c.args.size c.args.x (search rules) w; frame = refl }
 
-pub returns-then-size-eq1-2 : goal.returns-then-size-eq1-2
-returns-then-size-eq1-2 g t c =
+pub returns-then-size-eq1 : goal.returns-then-size-eq1
+returns-then-size-eq1 g t c =
     let s = g.S.Scheme.meaning c.args.s.now in
     let k = g.met.S.Scheme.sound c.args.s.now in
     let f : g.S.Scheme.meaning c.repeated-above.new.s ≡ s = c.repeated-above.ensures.frame in
@@ -34,8 +34,8 @@ returns-then-size-eq1-2 g t c =
       frame = c.sum.ensures.frame ∙ f2;
     }
 
-pub returns-else-size-eq1-2 : goal.returns-else-size-eq1-2
-returns-else-size-eq1-2 g t c =
+pub returns-else-size-eq1 : goal.returns-else-size-eq1
+returns-else-size-eq1 g t c =
     let s = g.S.Scheme.meaning c.args.s.now in
     let k = g.met.S.Scheme.sound c.args.s.now in
     let f : g.S.Scheme.meaning c.repeated-above.new.s ≡ s = c.repeated-above.ensures.frame in
