@@ -8,7 +8,7 @@ ghost use Rattle.std.proofs.Common.{rules};
 
 use integers::Modulus;
 use refusal::Refusal;
-use scheme::Scheme;
+use scheme::{Scheme, admit};
 
 // The residues modulo one number.
 #[derive(Clone, Copy)]
@@ -21,10 +21,8 @@ impl Plain {
     pub fn new(n: u64) -> Result<Plain, Refusal>
         ensures { Makes n result }
     {
-        match Modulus::new(n) {
-            Some(modulus) => Ok(Plain { modulus }),
-            None => Err(Refusal::Modulus),
-        }
+        let modulus = Modulus::new(n).ok_or(Refusal::Modulus)?;
+        Ok(Plain { modulus })
     }
 }
 
@@ -56,12 +54,7 @@ impl Scheme for Plain {
     }
 
     fn seal(&mut self, m: i64, word: u64) -> Result<u64, Refusal> {
-        if m.unsigned_abs() > self.modulus.half() {
-            return Err(Refusal::Large);
-        }
-        if word >= self.modulus.n {
-            return Err(Refusal::Mask);
-        }
+        admit(self.modulus, m, word < self.modulus.n)?;
         Ok(self.modulus.residue(m))
     }
 
@@ -78,9 +71,7 @@ mod tests {
 
     #[test]
     fn residues_modulo_81(rt: HostRuntime) -> Result<(), Fail> {
-        let Ok(mut s) = Plain::new(81) else {
-            return Err(Fail::new("81 is a modulus"));
-        };
+        let mut s = Plain::new(81)?;
         assert_eq!(rt; s.seal(-5, 70), Ok(76));
         assert_eq!(rt; s.seal(41, 81), Err(Refusal::Large));
         assert_eq!(rt; s.seal(-40, 81), Err(Refusal::Mask));
