@@ -8,7 +8,7 @@ ghost use Rattle.std.proofs.Common.{rules};
 
 use integers::Modulus;
 use refusal::Refusal;
-use scheme::Scheme;
+use scheme::{Scheme, admit};
 
 // Numbers below twice the modulus hide what they leave modulo it; odd mask words are taken. The
 // calls of sum are counted, and the count says which of the two numbers a sum answers.
@@ -23,10 +23,8 @@ impl Rerandomised {
     pub fn new(n: u64) -> Result<Rerandomised, Refusal>
         ensures { Makes n result }
     {
-        match Modulus::new(n) {
-            Some(modulus) => Ok(Rerandomised { modulus, sums: 0 }),
-            None => Err(Refusal::Modulus),
-        }
+        let modulus = Modulus::new(n).ok_or(Refusal::Modulus)?;
+        Ok(Rerandomised { modulus, sums: 0 })
     }
 }
 
@@ -64,12 +62,7 @@ impl Scheme for Rerandomised {
     }
 
     fn seal(&mut self, m: i64, word: u64) -> Result<u64, Refusal> {
-        if m.unsigned_abs() > self.modulus.half() {
-            return Err(Refusal::Large);
-        }
-        if word % 2 == 0 {
-            return Err(Refusal::Mask);
-        }
+        admit(self.modulus, m, word % 2 == 1)?;
         Ok(self.modulus.residue(m))
     }
 

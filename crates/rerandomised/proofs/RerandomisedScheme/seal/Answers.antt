@@ -10,4 +10,4 @@ returns c =
     let e : c.residue.result ≡ residue c.args.m n = c.residue.ensures ∙ ap (λ z. residue z n) (to_z-of_z w64 c.args.m c.ranges.m) in
     let z : 0 < n = omega arith in
     let b : c.residue.result < n = rw e (residue_below c.args.m n z) in
-    record { value = record { within = search rules; taken = eq-eqb (c.args.word % 2) 1 (omega arith); wf = lt-ltb c.residue.result (2 * n) (omega arith); hidden = mod-eq_of_lt b ∙ e }; frame = refl }
+    record { value = record { within = search rules; taken = search rules; wf = lt-ltb c.residue.result (2 * n) (omega arith); hidden = mod-eq_of_lt b ∙ e }; frame = refl }
