@@ -10,10 +10,6 @@ use scheme::Scheme;
 pub fn sealed_figure() -> Result<Halves<u64>, Refusal>
     ensures { SealedFigure result }
 {
-    let plain = match Plain::new(81) {
-        Ok(plain) => plain,
-        Err(refusal) => return Err(refusal),
-    };
-    let mut s = Split::new(plain);
+    let mut s = Split::new(Plain::new(81)?);
     s.seal(-5, 70)
 }

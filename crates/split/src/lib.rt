@@ -12,7 +12,7 @@ mod halves;
 pub use figure::sealed_figure;
 pub use halves::Halves;
 use refusal::Refusal;
-use scheme::{Scheme, modulus_of, seal_residue};
+use scheme::{Scheme, admit, modulus_of, seal_residue};
 
 // The split over the scheme below.
 #[derive(Drop)]
@@ -84,12 +84,7 @@ impl<S: Scheme> Scheme for Split<S> {
         ensures frame { split (S.meaning self.new.below) ≡ split (S.meaning self.old.below) }
     {
         let modulus = modulus_of(&mut self.below);
-        if m.unsigned_abs() > modulus.half() {
-            return Err(Refusal::Large);
-        }
-        if word >= modulus.n {
-            return Err(Refusal::Mask);
-        }
+        admit(modulus, m, word < modulus.n)?;
         let rest = modulus.sum(modulus.residue(m), modulus.opposite(word));
         let first = seal_residue(&mut self.below, word);
         let second = seal_residue(&mut self.below, rest);
@@ -114,18 +109,14 @@ mod tests {
 
     // (4 − 3j)·(2 + 5j), sealed, multiplied and opened: 23 + 14j.
     fn multiplied<S: Scheme>(s: &mut S, words: (u64, u64)) -> Option<Complex> {
-        let Ok(pair) = pairs::seal(s, 5, Complex { re: 2, im: 5 }, words) else {
-            return None;
-        };
+        let pair = pairs::seal(s, 5, Complex { re: 2, im: 5 }, words).ok()?;
         let product = pairs::product(s, Complex { re: 4, im: -3 }, pair);
         Some(pairs::open(s, product))
     }
 
     #[test]
     fn one_function_for_every_scheme(rt: HostRuntime) -> Result<(), Fail> {
-        let Ok(plain) = Plain::new(81) else {
-            return Err(Fail::new("81 is a modulus"));
-        };
+        let plain = Plain::new(81)?;
         let expected = Some(Complex { re: 23, im: 14 });
         let mut once = Split::new(plain);
         assert_eq!(rt; multiplied(&mut once, (17, 80)), expected);

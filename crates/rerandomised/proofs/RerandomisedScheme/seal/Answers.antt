@@ -1,4 +1,4 @@
-use Rattle.std.proofs.Common.{◌≡◌, ◌*◌, ◌%◌, ◌<◌, refl, ap, ◌∙◌, mod-eq_of_lt, arith, w64, rules, lt-ltb, eq-eqb}
+use Rattle.std.proofs.Common.{◌≡◌, ◌*◌, ◌<◌, refl, ap, ◌∙◌, mod-eq_of_lt, arith, w64, rules, lt-ltb}
 use Rattle.std.proofs.lemmas.Int.{to_z-of_z}
 use Rattle.integers.specs.Residue.{residue}
 use Rattle.integers.proofs.Residues.{residue_below}
