@@ -1,5 +1,6 @@
 -- The refusals of sealing, taken together.
-use Rattle.std.proofs.Common.{◌≡◌, ℕ, ◌<◌, ◌%◌, true, false, pos, [], Ok, Err, Result, IsOkAnd, sym, ◌∙◌, mod-lt, arith}
+use Rattle.std.proofs.Common.{ℕ, ◌<◌, ◌%◌, pos, [], Ok, Err, Result, IsOkAnd, sym, ◌∙◌, mod-lt, arith}
+use Rattle.std.proofs.lemmas.Bool.{true≢false}
 use Rattle.refusal.specs.declared.kinds.Refusal.{Refusal}
 use Rattle.refusal.specs.declared.kinds.Refusal.TheVariants.{Size, SampleScale, TwiddleScale, Block, Narrow, Moment, Place, Strange, Malformed, Short, Large, Mask, Modulus, Garbled, Long}
 use Rattle.integers.specs.Residue.{centred}
@@ -25,15 +26,12 @@ refuses_never L M Modulus l m h = h
 refuses_never L M Garbled l m h = h
 refuses_never L M Long l m h = h
 
-opposed : true ≡ false → ⊥
-opposed z = let y : ◌≡◌ {A = ℕ} 0 1 = cc in omega arith
-
 -- the meaning of a residue is never refused with the word 1
 pub residue_sealed : {Number : Type 0} (s : Meaning Number) → Sound s → (r : ℕ) (e : Refusal) → r < s.modulus → Refuses (TooLarge s (centred r s.modulus)) (NotTaken s (centred r s.modulus) 1) e → ⊥
 residue_sealed s k r e h =
     refuses_never (TooLarge s (centred r s.modulus)) (NotTaken s (centred r s.modulus) 1) e
     (λ t. omega (arith, t.above, centred_within r s.modulus k.odd h))
-    (λ t. opposed (sym k.one ∙ t.strange))
+    (λ t. true≢false (sym k.one ∙ t.strange))
 
 -- what sealing the meaning of a residue with the word 1 answers is a number that stands for it
 pub residue_answered : {Number : Type 0} (s : Meaning Number) → Sound s → (r : ℕ) (x : Result Number Refusal) → Seals s (centred (r % s.modulus) s.modulus) 1 x → IsOkAnd x (Stands s [] (pos r))

@@ -1,5 +1,6 @@
 -- The worked figure, from what seal owes.
-use Rattle.std.proofs.Common.{◌≡◌, ℕ, true, false, pos, negsuc, ◌-ℤ◌, Ok, Err, Result, refl, ◌∙◌, ap₂, arith}
+use Rattle.std.proofs.Common.{◌≡◌, ℕ, pos, negsuc, ◌-ℤ◌, Ok, Err, Result, refl, ◌∙◌, ap₂, arith}
+use Rattle.std.proofs.lemmas.Bool.{true≢false}
 use Rattle.refusal.specs.declared.kinds.Refusal.{Refusal}
 use Rattle.integers.specs.Residue.{residue, centred}
 use Rattle.plain.specs.Residues.{residues}
@@ -17,11 +18,8 @@ meant : centred 76 81 ≡ negsuc 4
 unfolding centred
 meant = refl
 
-opposed : true ≡ false → ⊥
-opposed z = let y : ◌≡◌ {A = ℕ} 0 1 = cc in omega arith
-
 pub figure_stands_lem : (r : Result (Halves ℕ) Refusal) → Seals (split (residues 81)) (negsuc 4) 70 r → SealsHalves (residues 81) (negsuc 4) 70 r → SealedFigure r
 figure_stands_lem (Ok x) h k =
     record { halves = ap₂ (λ (a b : ℕ). Ok (record { first = a; second = b })) k.first (k.second ∙ rest); hidden = refl; meant = meant }
 figure_stands_lem (Err e) h k =
-    absurd (refuses_never (TooLarge (split (residues 81)) (negsuc 4)) (NotTaken (split (residues 81)) (negsuc 4) 70) e (λ t. omega (arith, t.above)) (λ t. opposed t.strange) h)
+    absurd (refuses_never (TooLarge (split (residues 81)) (negsuc 4)) (NotTaken (split (residues 81)) (negsuc 4) 70) e (λ t. omega (arith, t.above)) (λ t. true≢false t.strange) h)

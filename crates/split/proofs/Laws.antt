@@ -1,5 +1,6 @@
 -- The calls of the split, from those of the scheme below, stated over the meaning alone.
-use Rattle.std.proofs.Common.{◌≡◌, ℕ, ◌+◌, ◌%◌, ◌<◌, ◌≤◌, Bool, true, false, ◌&&◌, [], ◌∷◌, ℤ, pos, ◌+ℤ◌, ◌-ℤ◌, neg_ℤ, nat_abs, sym, refl, ap, ◌∙◌, ap₂, arith, lt-ltb}
+use Rattle.std.proofs.Common.{◌≡◌, ℕ, ◌+◌, ◌%◌, ◌<◌, ◌≤◌, true, false, [], ◌∷◌, ℤ, pos, ◌+ℤ◌, ◌-ℤ◌, neg_ℤ, nat_abs, sym, ap, ◌∙◌, ap₂, arith, lt-ltb}
+use Rattle.std.proofs.lemmas.Bool.{and_parts, and_from}
 use native.Mathlib.Nat.{zero-mod}
 use borrow.Author.Differences.{ints}
 use Rattle.integers.specs.Residue.{residue, half}
@@ -8,18 +9,6 @@ use Rattle.scheme.specs.Meaning.{Meaning, Sound, View, Sum, Opposite, Sealed, hi
 use Rattle.scheme.specs.Hidden.{Stands}
 use Rattle.split.specs.declared.halves.Halves.{Halves}
 use Rattle.split.specs.Shares.{split, SumHalves, OppositeHalves, Masked}
-
-and_first : (x y : Bool) → x && y ≡ true → x ≡ true
-and_first true y e = refl
-and_first false y e = e
-
-and_second : (x y : Bool) → x && y ≡ true → y ≡ true
-and_second true y e = e
-and_second false true e = refl
-and_second false false e = e
-
-and_both : (x y : Bool) → x ≡ true → y ≡ true → x && y ≡ true
-and_both x y p q = rw (p, q)
 
 -- (a + b) + (c + d) = (a + c) + (b + d), modulo n and by remainders
 crossed : (a b c d n : ℕ) → ((a + b) % n + (c + d) % n) % n ≡ ((a + c) % n + (b + d) % n) % n
@@ -30,13 +19,13 @@ crossed a b c d n =
     swap a b c d = omega arith
 
 pub sum_splits : {Number : Type 0} (s : Meaning Number) (a b r : Halves Number) → SumHalves s a b r → (split s).wf a ≡ true → (split s).wf b ≡ true → Sum (split s) a b r
-sum_splits s a b r h p q = record { wf = and_both (s.wf r.first) (s.wf r.second) one.wf two.wf; reads = go }
+sum_splits s a b r h p q = record { wf = and_from (s.wf r.first) (s.wf r.second) one.wf two.wf; reads = go }
   where
     one : Sum s a.first b.first r.first
-    one = h.first (and_first (s.wf a.first) (s.wf a.second) p) (and_first (s.wf b.first) (s.wf b.second) q)
+    one = h.first ((and_parts (s.wf a.first) (s.wf a.second) p).0) ((and_parts (s.wf b.first) (s.wf b.second) q).0)
 
     two : Sum s a.second b.second r.second
-    two = h.second (and_second (s.wf a.first) (s.wf a.second) p) (and_second (s.wf b.first) (s.wf b.second) q)
+    two = h.second ((and_parts (s.wf a.first) (s.wf a.second) p).1) ((and_parts (s.wf b.first) (s.wf b.second) q).1)
 
     go : (v : View) → (split s).reads v r ≡ ((split s).reads v a + (split s).reads v b) % s.modulus
     go [] =
@@ -46,13 +35,13 @@ sum_splits s a b r h p q = record { wf = and_both (s.wf r.first) (s.wf r.second)
     go (true ∷ v) = two.reads v
 
 pub opposite_splits : {Number : Type 0} (s : Meaning Number) (a r : Halves Number) → OppositeHalves s a r → (split s).wf a ≡ true → Opposite (split s) a r
-opposite_splits s a r h p = record { wf = and_both (s.wf r.first) (s.wf r.second) one.wf two.wf; cancels = go }
+opposite_splits s a r h p = record { wf = and_from (s.wf r.first) (s.wf r.second) one.wf two.wf; cancels = go }
   where
     one : Opposite s a.first r.first
-    one = h.first (and_first (s.wf a.first) (s.wf a.second) p)
+    one = h.first ((and_parts (s.wf a.first) (s.wf a.second) p).0)
 
     two : Opposite s a.second r.second
-    two = h.second (and_second (s.wf a.first) (s.wf a.second) p)
+    two = h.second ((and_parts (s.wf a.first) (s.wf a.second) p).1)
 
     go : (v : View) → ((split s).reads v a + (split s).reads v r) % s.modulus ≡ 0
     go [] =
@@ -80,7 +69,7 @@ seal_splits s k m word x y w h p q t =
     record {
       within = w;
       taken = lt-ltb word n h;
-      wf = and_both (s.wf x) (s.wf y) p q;
+      wf = and_from (s.wf x) (s.wf y) p q;
       hidden =
           ap₂ (λ a b. (a + b) % n) (t.first ∙ sym (residue_small word n h)) t.second
           ∙ sym (residue_sum (pos word) (m -ℤ pos word) n z)
