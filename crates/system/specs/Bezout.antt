@@ -4,7 +4,8 @@ use Rattle.std.specs.Int.{◌∣◌}
 use Rattle.std.proofs.Common.{sym, ap, ◌∙◌, add-mul, mul-add, mul_assoc, mul-one, mul-zero, mul_left_comm, mod-lt, mod-eq_of_lt, add_assoc, arith}
 use Rattle.std.proofs.Math.Nat.{mod_self, zero-mod, mod-mod, mod-add-div, add-mul-mod_self_left, add-mod-mod, dvd-mod_iff, dvd_refl, dvd-zero, eq-one_of_dvd-one, dvd-mul_right_of_dvd}
 use Rattle.system.specs.Moduli.{Coprime, Inverts}
-use Rattle.system.specs.Congruence.{mul_mod_first, mul_mod_second, cancel}
+use Rattle.std.proofs.lemmas.Nat.{mul-mod_first, mul-mod_second}
+use Rattle.system.specs.Congruence.{cancel}
 
 -- rest and next are multiples of a, by f and g, modulo m; whatever divides both divides a and m
 pub record Going (a m rest next f g : ℕ) : Type 0 where
@@ -39,10 +40,10 @@ module _ (a m rest next f g : ℕ) (so : Going a m rest next f g) (some : 0 < ne
       ∙ ap (λ z. a * f + z) (ap (λ z. a * ((m - g) * t) + z) (mul_assoc a g t) ∙ sym (mul-add a ((m - g) * t) (g * t)) ∙ ap (λ z. a * z) inside ∙ mul_left_comm a m t) in
       let right : (new + next * t) % m ≡ (a * f) % m =
       sym (add-mod-mod new (next * t) m)
-      ∙ ap (λ z. (new + z) % m) (sym (mul_mod_first next t m) ∙ ap (λ z. (z * t) % m) so.follows ∙ mul_mod_first (a * g) t m)
+      ∙ ap (λ z. (new + z) % m) (sym (mul-mod_first next t m) ∙ ap (λ z. (z * t) % m) so.follows ∙ mul-mod_first (a * g) t m)
       ∙ add-mod-mod new (a * g * t) m ∙ ap (λ z. z % m) whole ∙ add-mul-mod_self_left (a * f) m (a * t) in
       cancel (rest % next) new (next * t) m (ap (λ z. z % m) (mod-add-div rest next) ∙ so.is ∙ sym right)
-      ∙ sym (mul_mod_second a (f + (m - g) * t) m)
+      ∙ sym (mul-mod_second a (f + (m - g) * t) m)
 
   pub turns : Going a m next (rest % next) g ((f + (m - g) * (rest / next)) % m)
   turns = record {

@@ -4,21 +4,9 @@ use Rattle.std.specs.Int.{◌∣◌}
 use Rattle.std.proofs.Math.Path.{sym, ap}
 use Rattle.std.proofs.Common.{◌∙◌, ⊎_elim, add-mul, mul_assoc, mul_comm, one-mul, mul_left_comm, eq-zero-or-pos, arith}
 use Rattle.std.proofs.Math.Nat.{mul-add, mul-one, mod-add-div, div-add-mod, add-mul-mod_self_left, add-mod-mod, mod-add-mod, mod-lt, mod-eq_of_lt, add-mod_right, mul-div_cancel', dvd-mul_right, dvd-mul_left_of_dvd, dvd-add_iff_right, mul-dvd-mul_left, dvd-sub, le_of_dvd, mul-le-mul_left, mul-mul-mul_comm}
+use Rattle.std.proofs.lemmas.Nat.{mul-mod_first, mul-mod_second}
 use Rattle.std.proofs.lemmas.Bool.{cases_lt}
 use Rattle.system.specs.Hidden.{raised}
-
--- a remainder is below a number that something is below
-pub mod_below : (a m : ℕ) {k : ℕ} → k < m → a % m < m
-mod_below a m h = mod-lt a (omega arith)
-
--- a factor may be replaced by its remainder
-pub mul_mod_first : (a b m : ℕ) → (a % m * b) % m ≡ (a * b) % m
-mul_mod_first a b m =
-    sym (add-mul-mod_self_left (a % m * b) m (a / m * b))
-    ∙ ap (λ t. t % m) (ap (λ t. a % m * b + t) (sym (mul_assoc m (a / m) b)) ∙ sym (add-mul (a % m) (m * (a / m)) b) ∙ ap (λ t. t * b) (mod-add-div a m))
-
-pub mul_mod_second : (a b m : ℕ) → (a * (b % m)) % m ≡ (a * b) % m
-mul_mod_second a b m = ap (λ t. t % m) (mul_comm a (b % m)) ∙ mul_mod_first b a m ∙ ap (λ t. t % m) (mul_comm b a)
 
 -- two numbers with one remainder differ by a multiple
 pub differ : (a b m : ℕ) → a ≤ b → a % m ≡ b % m → m ∣ b - a
@@ -45,7 +33,7 @@ cancel a b c m e =
 -- the product of two inverses is an inverse of the product
 pub joint_inverse_lem : (a b m u w : ℕ) → (a * u) % m ≡ 1 → (b * w) % m ≡ 1 → (a * b * (u * w % m)) % m ≡ 1
 joint_inverse_lem a b m u w au bw =
-    mul_mod_second (a * b) (u * w) m ∙ ap (λ t. t % m) (mul-mul-mul_comm a b u w) ∙ sym (mul_mod_first (a * u) (b * w) m)
+    mul-mod_second (a * b) (u * w) m ∙ ap (λ t. t % m) (mul-mul-mul_comm a b u w) ∙ sym (mul-mod_first (a * u) (b * w) m)
     ∙ ap (λ t. (t * (b * w)) % m) au ∙ ap (λ t. t % m) (one-mul (b * w)) ∙ bw
 
 -- u is an inverse of a modulo m: what a divides beside m goes into the other factor
@@ -75,7 +63,7 @@ module _ (base a m u x : ℕ) where
   raised_new inv h =
       let t : ℕ = x + (m - base % m) in
       let product : (a * (t * u % m)) % m ≡ t % m =
-      mul_mod_second a (t * u) m ∙ ap (λ z. z % m) (mul_left_comm a t u) ∙ sym (mul_mod_second t (a * u) m)
+      mul-mod_second a (t * u) m ∙ ap (λ z. z % m) (mul_left_comm a t u) ∙ sym (mul-mod_second t (a * u) m)
       ∙ ap (λ z. (t * z) % m) inv ∙ ap (λ z. z % m) (mul-one t) in
       let low : base % m < m = mod-lt base (omega arith) in
       sym (add-mod-mod base (a * (t * u % m)) m) ∙ ap (λ z. (base + z) % m) product ∙ add-mod-mod base t m ∙ sym (mod-add-mod base m t)

@@ -13,7 +13,8 @@ use Rattle.system.specs.declared.residues.System.{System}
 use Rattle.system.specs.Hidden.{product, residues, formed, Leaves, raised, hidden, OneIsHidden, Figure}
 use Rattle.system.specs.Meant.{meant}
 use Rattle.system.specs.Bezout.{inverse_coprime}
-use Rattle.system.specs.Congruence.{mul_mod_first, differ, cancel, joined, none_below, raised_old, raised_new, raised_below}
+use Rattle.std.proofs.lemmas.Nat.{mul-mod_first}
+use Rattle.system.specs.Congruence.{differ, cancel, joined, none_below, raised_old, raised_new, raised_below}
 
 module _ (s : System) where
   -- the moduli are above 0
@@ -167,18 +168,18 @@ module _ (s : System) where
 
   -- the product of the moduli is odd, at least 3 and below 2^60
   odd_times : (a b : ℕ) → a % 2 ≡ 1 → b % 2 ≡ 1 → (a * b) % 2 ≡ 1
-  odd_times a b e f = sym (mul_mod_first a b 2) ∙ ap (λ t. (t * b) % 2) e ∙ ap (λ t. t % 2) (one-mul b) ∙ f
+  odd_times a b e f = sym (mul-mod_first a b 2) ∙ ap (λ t. (t * b) % 2) e ∙ ap (λ t. t % 2) (one-mul b) ∙ f
 
   pub product_odd : product s % 2 ≡ 1
   product_odd = odd_times (s.first.n * s.second.n) s.third.n (odd_times s.first.n s.second.n s.first.odd s.second.odd) s.third.odd
 
   pub pair_most : s.first.n * s.second.n < 2 ^ 40
-  pair_most = let le : s.first.n * s.second.n ≤ 1_048_575 * 1_048_575 = mul-le-mul s.first_most s.second_most in (omega arith)
+  pair_most = let le : s.first.n * s.second.n ≤ 1_048_575 * 1_048_575 = mul-le-mul s.first.most s.second.most in (omega arith)
 
   pub product_most : product s < 2 ^ 60
   product_most =
-      let pair : s.first.n * s.second.n ≤ 1_048_575 * 1_048_575 = mul-le-mul s.first_most s.second_most in
-      let le : product s ≤ 1_048_575 * 1_048_575 * 1_048_575 = mul-le-mul pair s.third_most in
+      let pair : s.first.n * s.second.n ≤ 1_048_575 * 1_048_575 = mul-le-mul s.first.most s.second.most in
+      let le : product s ≤ 1_048_575 * 1_048_575 * 1_048_575 = mul-le-mul pair s.third.most in
       omega arith
 
   pub product_least : 3 ≤ product s

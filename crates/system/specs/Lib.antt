@@ -1,4 +1,3 @@
-pub mod Admission
 pub mod Hidden
 pub mod Making
 pub mod Meant

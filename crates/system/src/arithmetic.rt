@@ -1,29 +1,16 @@
 // Arithmetic on residues, one modulus at a time.
 ghost use Rattle.std.specs.Prelude.{◌≡◌, ◌+◌, ◌*◌, ◌%◌, ◌^◌, ◌<◌, true};
 ghost use Rattle.integers.specs.Residue.{residue as residue_of};
-ghost use Rattle.system.specs.Admission.{Admits};
-ghost use Rattle.system.specs.Hidden.{product, residues, formed, hidden, raised};
+ghost use Rattle.system.specs.Hidden.{product, formed, hidden, raised};
 
-use crate::residues::{Residues, System};
+use crate::residues::{Residues, SmallModulus, System};
 use integers::Modulus;
-use refusal::Refusal;
-
-// Three zeros.
-pub(crate) fn zeros() -> Residues
-    ensures { result ≡ residues 0 0 0 }
-{
-    Residues {
-        first: 0,
-        second: 0,
-        third: 0,
-    }
-}
 
 // The base, raised by the multiple of `factor` that makes it leave the residue modulo `modulus`: one more digit in mixed radix.
-fn raise(base: u64, factor: u64, modulus: Modulus, inverse: u64, residue: u64) -> u64
+fn raise(base: u64, factor: u64, modulus: SmallModulus, inverse: u64, residue: u64) -> u64
     requires digits { (base < factor) × (residue < modulus.n) }
     requires inverts { inverse < modulus.n }
-    requires fits { (factor < 2 ^ 40) × (modulus.n < 2 ^ 20) }
+    requires fits { factor < 2 ^ 40 }
     ensures value { result ≡ raised base factor modulus.n inverse residue }
     ensures below { result < factor * modulus.n }
 {
@@ -31,6 +18,9 @@ fn raise(base: u64, factor: u64, modulus: Modulus, inverse: u64, residue: u64) -
     base + factor * (lack * inverse % modulus.n)
 }
 
+// Kept: a line for each modulus in the three functions that make residues. A helper over a closure would be handed what is there at
+// each modulus, two residues for a sum, one for an opposite and none for a remainder, and `each(a, b, |n, x, y| n.sum(x, y))` would
+// serve the sum alone.
 impl System {
     // The product of the first two moduli.
     fn pair(&self) -> u64
@@ -63,9 +53,9 @@ impl System {
         ensures third { result.third ≡ (a.third + b.third) % self.now.third.n }
     {
         Residues {
-            first: self.first.sum(a.first, b.first),
-            second: self.second.sum(a.second, b.second),
-            third: self.third.sum(a.third, b.third),
+            first: Modulus::from(self.first).sum(a.first, b.first),
+            second: Modulus::from(self.second).sum(a.second, b.second),
+            third: Modulus::from(self.third).sum(a.third, b.third),
         }
     }
 
@@ -77,9 +67,9 @@ impl System {
         ensures third { (a.third + result.third) % self.now.third.n ≡ 0 }
     {
         Residues {
-            first: self.first.opposite(a.first),
-            second: self.second.opposite(a.second),
-            third: self.third.opposite(a.third),
+            first: Modulus::from(self.first).opposite(a.first),
+            second: Modulus::from(self.second).opposite(a.second),
+            third: Modulus::from(self.third).opposite(a.third),
         }
     }
 
@@ -90,24 +80,9 @@ impl System {
         ensures third { result.third ≡ residue_of m self.now.third.n }
     {
         Residues {
-            first: self.first.residue(m),
-            second: self.second.residue(m),
-            third: self.third.residue(m),
-        }
-    }
-
-    // Whether m can be sealed with the mask word: refuses with Large where the size of m is above half of the modulus, else with
-    // Mask where the word is not below the modulus.
-    pub(crate) fn admit(&self, m: i64, word: u64) -> Result<(), Refusal>
-        ensures { Admits self.now m word result }
-    {
-        let whole = self.whole();
-        if m.unsigned_abs() > whole.half() {
-            Err(Refusal::Large)
-        } else if word >= whole.n {
-            Err(Refusal::Mask)
-        } else {
-            Ok(())
+            first: Modulus::from(self.first).residue(m),
+            second: Modulus::from(self.second).residue(m),
+            third: Modulus::from(self.third).residue(m),
         }
     }
 

@@ -2,10 +2,9 @@
 ghost use Rattle.system.specs.Meant.{meant};
 ghost use Rattle.system.specs.Laws;
 
-use crate::arithmetic;
 use crate::residues::{Residues, System};
 use refusal::Refusal;
-use scheme::Scheme;
+use scheme::{Scheme, admit};
 
 impl Scheme for System {
     type Number = Residues;
@@ -23,7 +22,7 @@ impl Scheme for System {
     }
 
     fn zero(&mut self) -> Residues {
-        arithmetic::zeros()
+        Residues::default()
     }
 
     fn sum(&mut self, a: Residues, b: Residues) -> Residues {
@@ -35,7 +34,8 @@ impl Scheme for System {
     }
 
     fn seal(&mut self, m: i64, word: u64) -> Result<Residues, Refusal> {
-        self.admit(m, word)?;
+        let whole = self.whole();
+        admit(whole, m, word < whole.n)?;
         Ok(self.remainders(m))
     }
 

@@ -1,18 +1,32 @@
 // Making a residue system.
-ghost use Rattle.std.specs.Prelude.{Decides};
-ghost use Rattle.system.specs.Making.{Made};
-ghost use Rattle.system.specs.Moduli.{Suits};
+ghost use Rattle.std.specs.Prelude.{◌≡◌};
+ghost use Rattle.system.specs.Making.{Found, Made, MadeSmall};
 
 use crate::euclid::{inverse, joint_inverse};
-use crate::residues::System;
+use crate::residues::{SmallModulus, System};
 use integers::Modulus;
 use refusal::Refusal;
 
-// Whether the modulus is odd and from 3 to 1,048,575.
-fn suits(modulus: u64) -> bool
-    ensures { Decides result (Suits modulus) }
-{
-    modulus % 2 == 1 && modulus >= 3 && modulus <= 1_048_575
+impl SmallModulus {
+    // The modulus n; none where n is even or lies outside 3 to 1,048,575.
+    pub(crate) fn new(n: u64) -> Option<SmallModulus>
+        ensures { MadeSmall n result }
+    {
+        if n % 2 == 1 && (3..=1_048_575).contains(&n) {
+            Some(SmallModulus { n })
+        } else {
+            None
+        }
+    }
+}
+
+// The same modulus, as one of residues.
+impl From<SmallModulus> for Modulus {
+    ghost from_gives = { λ small r. r.n ≡ small.n };
+
+    fn from(small: SmallModulus) -> Modulus {
+        Modulus { n: small.n }
+    }
 }
 
 impl System {
@@ -21,23 +35,24 @@ impl System {
     pub fn new(first: u64, second: u64, third: u64) -> Result<System, Refusal>
         ensures { Made first second third result }
     {
-        if !(suits(first) && suits(second) && suits(third)) {
-            return Err(Refusal::Modulus);
-        }
-        let Some(first_to_second) = inverse(first, second) else {
-            return Err(Refusal::Modulus);
-        };
-        let Some(first_to_third) = inverse(first, third) else {
-            return Err(Refusal::Modulus);
-        };
-        let Some(second_to_third) = inverse(second, third) else {
-            return Err(Refusal::Modulus);
-        };
-        let joint = joint_inverse(first, second, third, first_to_third, second_to_third);
-        Ok(System {
-            first: Modulus { n: first },
-            second: Modulus { n: second },
-            third: Modulus { n: third },
+        System::of(first, second, third).ok_or(Refusal::Modulus)
+    }
+
+    // The system of three moduli; none where they break that rule.
+    fn of(first: u64, second: u64, third: u64) -> Option<System>
+        ensures { Found first second third result }
+    {
+        let first = SmallModulus::new(first)?;
+        let second = SmallModulus::new(second)?;
+        let third = SmallModulus::new(third)?;
+        let first_to_second = inverse(first, second)?;
+        let first_to_third = inverse(first, third)?;
+        let second_to_third = inverse(second, third)?;
+        let joint = joint_inverse(first.n, second.n, third, first_to_third, second_to_third);
+        Some(System {
+            first,
+            second,
+            third,
             inverse: first_to_second,
             joint,
         })

@@ -12,20 +12,9 @@ fn residues(first: u64, second: u64, third: u64) -> Residues {
     }
 }
 
-// Whether the three moduli make a system; any other refusal than Modulus is an error.
-fn makes(first: u64, second: u64, third: u64) -> Result<bool, Fail> {
-    match System::new(first, second, third) {
-        Ok(_) => Ok(true),
-        Err(Refusal::Modulus) => Ok(false),
-        Err(_) => Err(Fail::new("another refusal than modulus")),
-    }
-}
-
 #[test]
 fn three_five_seven(rt: HostRuntime) -> Result<(), Fail> {
-    let Ok(mut s) = System::new(3, 5, 7) else {
-        return Err(Fail::new("3, 5, 7"));
-    };
+    let mut s = System::new(3, 5, 7)?;
     assert_eq!(rt; s.modulus(), 105);
     let x = residues(2, 3, 2);
     assert!(rt; s.test(x));
@@ -39,9 +28,7 @@ fn three_five_seven(rt: HostRuntime) -> Result<(), Fail> {
 
 #[test]
 fn largest(rt: HostRuntime) -> Result<(), Fail> {
-    let Ok(mut s) = System::new(1_048_575, 1_048_573, 1_048_571) else {
-        return Err(Fail::new("the largest moduli"));
-    };
+    let mut s = System::new(1_048_575, 1_048_573, 1_048_571)?;
     assert_eq!(rt; s.modulus(), 1_152_911_609_026_314_225);
     assert_eq!(rt;
         s.open(residues(1_048_574, 1_048_572, 1_048_570)),
@@ -67,24 +54,29 @@ fn largest(rt: HostRuntime) -> Result<(), Fail> {
 }
 
 #[test]
-fn moduli(rt: HostRuntime) -> Result<(), Fail> {
-    assert!(rt; makes(1_048_575, 7, 9)? == false);
-    assert!(rt; makes(1_048_575, 7, 13)?);
-    assert!(rt; makes(7, 13, 1_048_577)? == false);
-    assert!(rt; makes(1, 5, 7)? == false);
-    assert!(rt; makes(5, 4, 7)? == false);
-    assert!(rt; makes(9, 15, 7)? == false);
-    assert!(rt; makes(9, 7, 15)? == false);
-    assert!(rt; makes(7, 9, 15)? == false);
-    assert!(rt; makes(9, 25, 49)?);
-    Ok(())
+fn moduli(rt: HostRuntime) {
+    for (first, second, third, refusal) in [
+        (1_048_575, 7, 9, Some(Refusal::Modulus)),
+        (1_048_575, 7, 13, None),
+        (7, 13, 1_048_577, Some(Refusal::Modulus)),
+        (1, 5, 7, Some(Refusal::Modulus)),
+        (5, 4, 7, Some(Refusal::Modulus)),
+        (9, 15, 7, Some(Refusal::Modulus)),
+        (9, 7, 15, Some(Refusal::Modulus)),
+        (7, 9, 15, Some(Refusal::Modulus)),
+        (9, 25, 49, None),
+    ] {
+        assert_eq!(rt;
+            System::new(first, second, third).err(),
+            refusal,
+            "at {first} {second} {third}"
+        );
+    }
 }
 
 #[test]
 fn malformed(rt: HostRuntime) -> Result<(), Fail> {
-    let Ok(mut s) = System::new(3, 5, 7) else {
-        return Err(Fail::new("3, 5, 7"));
-    };
+    let mut s = System::new(3, 5, 7)?;
     assert!(rt; !s.test(residues(3, 4, 6)));
     assert!(rt; !s.test(residues(2, 5, 6)));
     assert!(rt; !s.test(residues(2, 4, 7)));

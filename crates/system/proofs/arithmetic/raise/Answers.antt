@@ -11,7 +11,7 @@ overflow_add-result c =
     raised_below c.args.base c.args.factor c.args.modulus.n c.args.inverse c.args.residue
     c.requires.digits.0 (omega arith) in
     let room : c.args.factor * c.args.modulus.n < 2 ^ 40 * 2 ^ 20 =
-    mul-lt c.args.factor c.args.modulus.n (2 ^ 40) (2 ^ 20) c.requires.fits.0 c.requires.fits.1 in
+    mul-lt c.args.factor c.args.modulus.n (2 ^ 40) (2 ^ 20) c.requires.fits (omega (arith, c.args.modulus.most)) in
     search rules
 
 pub returns : goal.returns

@@ -1,9 +1,10 @@
-use Rattle.system.specs.Congruence.{joint_inverse_lem, mod_below}
+use Rattle.std.proofs.Common.{mod-lt, arith}
+use Rattle.system.specs.Congruence.{joint_inverse_lem}
 use Rattle.system.proofs.euclid.joint_inverse.Goals as goal
 
 pub returns : goal.returns
 returns c =
     record {
-      below = mod_below _ _ c.requires.small.1.0;
+      below = mod-lt _ (omega (arith, c.args.modulus.least));
       inverts = joint_inverse_lem _ _ _ _ _ c.requires.inverts.0 c.requires.inverts.1;
     }
