@@ -1,127 +1,113 @@
 // Prints what each scheme answers at the ends of its range, one call a line, to be compared with an
-// independent calculation. One generic function serves every scheme.
+// independent calculation. One generic struct serves every scheme.
 #![tactic(auto)]
 
 use plain::Plain;
-use refusal::Refusal;
 use rerandomised::Rerandomised;
 use scheme::{Scheme, difference, modulus_of, multiple, open_centred, seal_and_open, seal_within};
 use split::{Halves, Split};
 use std::io;
 use system::{Residues, System};
 
-// Seals and opens, with words and limits on both sides of each edge.
-fn print_seals<S: Scheme>(rt: &impl Print, name: &str, s: &mut S, m: i64) -> io::Result<()> {
-    let n = s.modulus();
-    for word in [0, 1, n.wrapping_sub(1), n, u64::MAX] {
-        match seal_and_open(s, m, word) {
-            Ok(opened) => println!(rt; "{name} seal {m} {word}: {opened}")?,
-            Err(refusal) => println!(rt; "{name} seal {m} {word}: {refusal}")?,
-        }
+// A scheme that is swept, where its lines are printed and the name that they begin with.
+#[derive(Drop)]
+struct Sweep<'a, P, S> {
+    rt: &'a P,
+    name: &'a str,
+    s: &'a mut S,
+}
+
+impl<'a, P: Print, S: Scheme> Sweep<'a, P, S> {
+    fn new(rt: &'a P, name: &'a str, s: &'a mut S) -> Sweep<'a, P, S> {
+        Sweep { rt, name, s }
     }
-    let size = m.unsigned_abs();
-    for limit in [0, size.wrapping_sub(1), size, u64::MAX] {
-        match seal_within(s, limit, m, 1) {
-            Ok(x) => {
-                let opened = open_centred(s, x);
-                println!(rt; "{name} within {limit} {m}: {opened}")?;
+
+    // Seals and opens, with words and limits on both sides of each edge.
+    fn print_seals(&mut self, m: i64) -> io::Result<()> {
+        let name = self.name;
+        let n = self.s.modulus();
+        for word in [0, 1, n.wrapping_sub(1), n, u64::MAX] {
+            match seal_and_open(self.s, m, word) {
+                Ok(opened) => println!(self.rt; "{name} seal {m} {word}: {opened}")?,
+                Err(refusal) => println!(self.rt; "{name} seal {m} {word}: {refusal}")?,
             }
-            Err(refusal) => println!(rt; "{name} within {limit} {m}: {refusal}")?,
         }
+        let size = m.unsigned_abs();
+        for limit in [0, size.wrapping_sub(1), size, u64::MAX] {
+            match seal_within(self.s, limit, m, 1) {
+                Ok(x) => {
+                    let opened = open_centred(self.s, x);
+                    println!(self.rt; "{name} within {limit} {m}: {opened}")?;
+                }
+                Err(refusal) => println!(self.rt; "{name} within {limit} {m}: {refusal}")?,
+            }
+        }
+        Ok(())
     }
-    Ok(())
-}
 
-// The sum, the difference and the opposite of two hidden numbers.
-fn print_sums<S: Scheme>(
-    rt: &impl Print,
-    name: &str,
-    s: &mut S,
-    x: S::Number,
-    y: S::Number,
-) -> io::Result<()> {
-    let sum = s.sum(x, y);
-    let less = difference(s, x, y);
-    let opposite = s.opposite(x);
-    let formed = s.test(sum) && s.test(less) && s.test(opposite);
-    let sum = open_centred(s, sum);
-    let less = open_centred(s, less);
-    let opposite = open_centred(s, opposite);
-    println!(rt; "{name} sum {sum} {less} {opposite} {formed}")
-}
-
-// Multiples of a hidden number.
-fn print_multiples<S: Scheme>(
-    rt: &impl Print,
-    name: &str,
-    s: &mut S,
-    x: S::Number,
-) -> io::Result<()> {
-    for c in [0, 1, -1, 2, 3, -7, 1000, i64::MAX, i64::MIN] {
-        let times = multiple(s, c, x);
-        let opened = open_centred(s, times);
-        println!(rt; "{name} times {c}: {opened}")?;
+    // The sum, the difference and the opposite of two hidden numbers.
+    fn print_sums(&mut self, x: S::Number, y: S::Number) -> io::Result<()> {
+        let name = self.name;
+        let sum = self.s.sum(x, y);
+        let less = difference(self.s, x, y);
+        let opposite = self.s.opposite(x);
+        let formed = self.s.test(sum) && self.s.test(less) && self.s.test(opposite);
+        let sum = open_centred(self.s, sum);
+        let less = open_centred(self.s, less);
+        let opposite = open_centred(self.s, opposite);
+        println!(self.rt; "{name} sum {sum} {less} {opposite} {formed}")
     }
-    Ok(())
-}
 
-// Sums of two sealed numbers, multiples of the first.
-fn print_sealed<S: Scheme>(
-    rt: &impl Print,
-    name: &str,
-    s: &mut S,
-    a: i64,
-    b: i64,
-) -> io::Result<()> {
-    println!(rt; "{name} numbers {a} {b}")?;
-    let Ok(x) = s.seal(a, 1) else {
-        return Ok(());
-    };
-    let Ok(y) = s.seal(b, 1) else {
-        return Ok(());
-    };
-    print_sums(rt, name, s, x, y)?;
-    print_multiples(rt, name, s, x)
-}
-
-// All of it, at the ends of the scheme's range.
-fn print_scheme<S: Scheme>(rt: &impl Print, name: &str, s: &mut S) -> io::Result<()> {
-    let n = s.modulus();
-    println!(rt; "{name} modulus {n}")?;
-    let zero = s.zero();
-    let opened = s.open(zero);
-    println!(rt; "{name} zero {opened}")?;
-    let Ok(half) = i64::try_from(modulus_of(s).half()) else {
-        return Ok(());
-    };
-    let ends = [
-        0,
-        1,
-        -1,
-        half,
-        half.wrapping_neg(),
-        half.wrapping_add(1),
-        !half,
-    ];
-    for m in ends {
-        print_seals(rt, name, s, m)?;
-        print_sealed(rt, name, s, m, half)?;
+    // Multiples of a hidden number.
+    fn print_multiples(&mut self, x: S::Number) -> io::Result<()> {
+        let name = self.name;
+        for c in [0, 1, -1, 2, 3, -7, 1000, i64::MAX, i64::MIN] {
+            let times = multiple(self.s, c, x);
+            let opened = open_centred(self.s, times);
+            println!(self.rt; "{name} times {c}: {opened}")?;
+        }
+        Ok(())
     }
-    print_seals(rt, name, s, i64::MAX)?;
-    print_seals(rt, name, s, i64::MIN)
-}
 
-// Hands a number that need not be well formed to every call that takes one; only the test's answer
-// is fixed, the others have to return.
-fn print_any<S: Scheme>(rt: &impl Print, name: &str, s: &mut S, x: S::Number) -> io::Result<()> {
-    let formed = s.test(x);
-    let sum = s.sum(x, x);
-    let opposite = s.opposite(x);
-    let _ = s.open(sum);
-    let _ = s.open(opposite);
-    let _ = open_centred(s, x);
-    let _ = multiple(s, i64::MIN, x);
-    println!(rt; "{name} any {formed}")
+    // Sums of two numbers that can be sealed, multiples of the first.
+    fn print_sealed(&mut self, a: i64, b: i64) -> io::Result<()> {
+        println!(self.rt; "{} numbers {a} {b}", self.name)?;
+        if let (Ok(x), Ok(y)) = (self.s.seal(a, 1), self.s.seal(b, 1)) {
+            self.print_sums(x, y)?;
+            self.print_multiples(x)?;
+        }
+        Ok(())
+    }
+
+    // All of it, at the ends of the scheme's range.
+    fn print_all(&mut self) -> io::Result<()> {
+        let name = self.name;
+        let n = self.s.modulus();
+        println!(self.rt; "{name} modulus {n}")?;
+        let zero = self.s.zero();
+        let opened = self.s.open(zero);
+        println!(self.rt; "{name} zero {opened}")?;
+        let half = modulus_of(self.s).half() as i64;
+        for m in [0, 1, -1, half, -half, half + 1, !half] {
+            self.print_seals(m)?;
+            self.print_sealed(m, half)?;
+        }
+        self.print_seals(i64::MAX)?;
+        self.print_seals(i64::MIN)
+    }
+
+    // Hands a number that need not be well formed to every call that takes one; only the test's
+    // answer is fixed, the others have to return.
+    fn print_any(&mut self, x: S::Number) -> io::Result<()> {
+        let formed = self.s.test(x);
+        let sum = self.s.sum(x, x);
+        let opposite = self.s.opposite(x);
+        let _ = self.s.open(sum);
+        let _ = self.s.open(opposite);
+        let _ = open_centred(self.s, x);
+        let _ = multiple(self.s, i64::MIN, x);
+        println!(self.rt; "{} any {formed}", self.name)
+    }
 }
 
 fn print_plain(rt: &impl Print, n: u64) -> io::Result<()> {
@@ -129,16 +115,18 @@ fn print_plain(rt: &impl Print, n: u64) -> io::Result<()> {
         Ok(s) => s,
         Err(refusal) => return println!(rt; "plain {n}: {refusal}"),
     };
-    print_scheme(rt, "plain", &mut s)?;
+    let mut plain = Sweep::new(rt, "plain", &mut s);
+    plain.print_all()?;
     for x in [0, n - 1, n, u64::MAX] {
-        print_any(rt, "plain", &mut s, x)?;
+        plain.print_any(x)?;
     }
     let mut once = Split::new(s);
-    print_scheme(rt, "split", &mut once)?;
+    let mut split = Sweep::new(rt, "split", &mut once);
+    split.print_all()?;
     for (first, second) in [(0, n - 1), (n, 0), (0, n), (u64::MAX, u64::MAX)] {
-        print_any(rt, "split", &mut once, Halves { first, second })?;
+        split.print_any(Halves { first, second })?;
     }
-    print_scheme(rt, "split twice", &mut Split::new(Split::new(s)))
+    Sweep::new(rt, "split twice", &mut Split::new(Split::new(s))).print_all()
 }
 
 fn print_system(rt: &impl Print, first: u64, second: u64, third: u64) -> io::Result<()> {
@@ -146,12 +134,9 @@ fn print_system(rt: &impl Print, first: u64, second: u64, third: u64) -> io::Res
         Ok(s) => s,
         Err(refusal) => return println!(rt; "system {first} {second} {third}: {refusal}"),
     };
-    print_scheme(rt, "system", &mut s)?;
-    let least = Residues {
-        first: 0,
-        second: 0,
-        third: 0,
-    };
+    let mut system = Sweep::new(rt, "system", &mut s);
+    system.print_all()?;
+    let least = Residues::default();
     let most = Residues {
         first: u64::MAX,
         second: u64::MAX,
@@ -164,9 +149,9 @@ fn print_system(rt: &impl Print, first: u64, second: u64, third: u64) -> io::Res
         Residues { third, ..least },
         most,
     ] {
-        print_any(rt, "system", &mut s, x)?;
+        system.print_any(x)?;
     }
-    print_scheme(rt, "split system", &mut Split::new(s))
+    Sweep::new(rt, "split system", &mut Split::new(s)).print_all()
 }
 
 fn print_rerandomised(rt: &impl Print, n: u64) -> io::Result<()> {
@@ -174,8 +159,8 @@ fn print_rerandomised(rt: &impl Print, n: u64) -> io::Result<()> {
         Ok(s) => s,
         Err(refusal) => return println!(rt; "rerandomised {n}: {refusal}"),
     };
-    print_scheme(rt, "rerandomised", &mut s)?;
-    print_scheme(rt, "split rerandomised", &mut Split::new(s))
+    Sweep::new(rt, "rerandomised", &mut s).print_all()?;
+    Sweep::new(rt, "split rerandomised", &mut Split::new(s)).print_all()
 }
 
 fn main(rt: HostRuntime) -> io::Result<()> {
