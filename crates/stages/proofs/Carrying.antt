@@ -1,5 +1,5 @@
 -- Whatever pairs stand for, the answers of the pair operations stand for the result; the factors of a stage as the code applies them.
-use Rattle.std.proofs.Common.{◌≡◌, ℕ, zero, suc, ◌*◌, ◌/◌, ◌<◌, ◌≤◌, ℤ, pos, sym, ap, ◌∙◌, subst, one-mul, mul-zero, zero-mul, arith}
+use Rattle.std.proofs.Common.{◌≡◌, ℕ, zero, suc, ◌*◌, ◌/◌, ◌<◌, ◌≤◌, ℤ, pos, sym, ap, ◌∙◌, subst, mul-zero, zero-mul, arith}
 use Rattle.integers.specs.declared.Complex.{Complex}
 use Rattle.integers.specs.Complex.{◌⊕◌, ◌⊖◌, ◌⊗◌, ◌⊙◌, real, quarter_turn_of}
 use Rattle.integers.proofs.ComplexRing.{one-⊗, real-⊗, turn_is}
@@ -45,9 +45,6 @@ module _ {Number : Type 0} (m : Meaning Number) (sound : Sound m) where
 
 -- ---- the factors
 
-pub weight_one : (q size k : ℕ) (z : Complex) → size ≤ 4 → z ≡ weight q size 0 k ⊗ z
-weight_one q size k z h = sym (one-⊗ z) ∙ ap (λ w. w ⊗ z) (sym (weight_first_small q size k h))
-
 pub weight_scale : (q size k : ℕ) (z : Complex) → 4 < size → pos q ⊙ z ≡ weight q size 0 k ⊗ z
 weight_scale q size k z h = sym (real-⊗ (pos q) z) ∙ ap (λ w. w ⊗ z) (sym (weight_first q size k h))
 
@@ -55,26 +52,35 @@ pub weight_twiddle : (q size i k : ℕ) → 1 ≤ i → 4 < size → twiddle q (
 weight_twiddle q size zero k o h = absurd (omega arith)
 weight_twiddle q size (suc i) k o h = sym (weight_next q size i k h)
 
-weight_exact : (q size i k : ℕ) → 1 ≤ i → size ≤ 4 → turned (i * k * (4 / size)) (real (pos 1)) ≡ weight q size i k
-weight_exact q size zero k o h = absurd (omega arith)
-weight_exact q size (suc i) k o h = sym (weight_small q size i k h)
+-- ---- up to size 4 the factors are exact: 1, or −j
 
-pub weight_none : (q size i k : ℕ) (z : Complex) → 1 ≤ i → size ≤ 4 → i * k * (4 / size) ≡ 0 → z ≡ weight q size i k ⊗ z
+weight_exact : (q size i k : ℕ) → size ≤ 4 → turned (i * k * (4 / size)) (real (pos 1)) ≡ weight q size i k
 unfolding turned
-weight_none q size i k z o h e =
-    let w : real (pos 1) ≡ weight q size i k = ap (λ n. turned n (real (pos 1))) (sym e) ∙ weight_exact q size i k o h in
+weight_exact q size zero k h = ap (λ n. turned n (real (pos 1))) (ap (λ n. n * (4 / size)) (zero-mul k) ∙ zero-mul (4 / size)) ∙ sym (weight_first_small q size k h)
+weight_exact q size (suc i) k h = sym (weight_small q size i k h)
+
+pub weight_none : (q size i k : ℕ) (z : Complex) → size ≤ 4 → i * k * (4 / size) ≡ 0 → z ≡ weight q size i k ⊗ z
+unfolding turned
+weight_none q size i k z h e =
+    let w : real (pos 1) ≡ weight q size i k = ap (λ n. turned n (real (pos 1))) (sym e) ∙ weight_exact q size i k h in
     sym (one-⊗ z) ∙ ap (λ x. x ⊗ z) w
 
-pub weight_turn : (q size i k : ℕ) (z : Complex) → 1 ≤ i → size ≤ 4 → i * k * (4 / size) ≡ 1 → quarter_turn_of z ≡ weight q size i k ⊗ z
+pub weight_turn : (q size i k : ℕ) (z : Complex) → size ≤ 4 → i * k * (4 / size) ≡ 1 → quarter_turn_of z ≡ weight q size i k ⊗ z
 unfolding turned
-weight_turn q size i k z o h e =
-    let w : quarter_turn_of (real (pos 1)) ≡ weight q size i k = ap (λ n. turned n (real (pos 1))) (sym e) ∙ weight_exact q size i k o h in
+weight_turn q size i k z h e =
+    let w : quarter_turn_of (real (pos 1)) ≡ weight q size i k = ap (λ n. turned n (real (pos 1))) (sym e) ∙ weight_exact q size i k h in
     turn_is z ∙ ap (λ x. x ⊗ z) w
 
--- ---- up to size 4 the factors are exact
-
-pub exact2 : (k n : ℕ) → k * n ≤ 1 → 1 * k * n ≤ 1
-exact2 k n h = rw (one-mul k) h
-
-pub exact4 : (i k n : ℕ) → k ≡ 0 → i * k * n ≤ 1
-exact4 i k n e = let z : i * k * n ≡ 0 = ap (λ x. i * x * n) e ∙ ap (λ x. x * n) (mul-zero i) ∙ zero-mul n in omega arith
+-- part i of lines k: either is 0, or both are 1 at size 4
+pub at_most_one : (r span i k : ℕ) → i < r → k < span → r * span ≤ 4 → i * k * (4 / (r * span)) ≤ 1
+at_most_one r span zero k hi hk h = omega (arith, zero-mul k, zero-mul (4 / (r * span)))
+at_most_one r span (suc i) zero hi hk h = omega (arith, mul-zero (suc i), zero-mul (4 / (r * span)))
+at_most_one zero span (suc i) (suc k) hi hk h = absurd (omega arith)
+at_most_one (suc zero) span (suc i) (suc k) hi hk h = absurd (omega arith)
+at_most_one (suc (suc r)) zero (suc i) (suc k) hi hk h = absurd (omega arith)
+at_most_one (suc (suc r)) (suc zero) (suc i) (suc k) hi hk h = absurd (omega arith)
+at_most_one (suc (suc zero)) (suc (suc zero)) (suc zero) (suc zero) hi hk h = omega arith
+at_most_one (suc (suc zero)) (suc (suc zero)) (suc zero) (suc (suc k)) hi hk h = absurd (omega arith)
+at_most_one (suc (suc zero)) (suc (suc zero)) (suc (suc i)) (suc k) hi hk h = absurd (omega arith)
+at_most_one (suc (suc zero)) (suc (suc (suc s))) (suc i) (suc k) hi hk h = absurd (omega arith)
+at_most_one (suc (suc (suc r))) (suc (suc s)) (suc i) (suc k) hi hk h = absurd (omega arith)

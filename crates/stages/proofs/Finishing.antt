@@ -1,5 +1,5 @@
 -- A finished stage.
-use Rattle.std.proofs.Common.{◌≡◌, ℕ, suc, ◌+◌, ◌-◌, ◌*◌, ◌/◌, ◌%◌, ◌^◌, ◌<◌, ◌≤◌, true, List, [], ◌∷◌, length, get_or, Some, None, sym, ap, ◌∙◌, subst, mod-lt, div-lt_iff_lt-mul, div-add-mod', arith}
+use Rattle.std.proofs.Common.{◌≡◌, ℕ, suc, ◌+◌, ◌-◌, ◌*◌, ◌/◌, ◌%◌, ◌^◌, ◌<◌, ◌≤◌, true, List, [], ◌∷◌, length, get_or, Some, None, Err, Option, Result, sym, refl, ap, ◌∙◌, subst, mod-lt, div-lt_iff_lt-mul, div-add-mod', arith}
 use native.Mathlib.Nat.{pow-succ'}
 use lib.Arith.{digits_lt}
 use Rattle.integers.specs.declared.Complex.{Complex}
@@ -13,12 +13,15 @@ use Rattle.lines.specs.Places.{Staged, Standing, place}
 use Rattle.lines.proofs.Places.{stage_made}
 use Rattle.stages.specs.Block.{is_well_formed_at, read_at, StandsAt}
 use Rattle.scheme.specs.Hidden.{well_formed}
-use Rattle.stages.specs.Search.{Found}
-use Rattle.stages.specs.Stage.{entries, Making, Shaped, stages_in, Stage}
+use Rattle.stages.specs.Search.{Found, Tested}
+use Rattle.std.specs.Option.{ok_or}
+use Rattle.refusal.specs.declared.kinds.Refusal.{Refusal}
+use Rattle.refusal.specs.declared.kinds.Refusal.TheVariants.{Moment}
+use Rattle.stages.specs.Stage.{entries, Making, StageAnswer, StageRefused, PowerBelow, stages_in, Stage}
 use Rattle.stages.proofs.Blocks.{entry_itself, both, both_true, sound_there, read_there}
 use Rattle.stages.proofs.Making.{place_inside}
 use Rattle.stages.proofs.Reversal.{power_some}
-use Rattle.stages.proofs.Shapes.{staging_of, base_two, powered, power_splits, groups_are}
+use Rattle.stages.proofs.Shapes.{Shape, unshaped, staging_of, base_two, powered, power_splits, groups_are}
 
 module _ {Number : Type 0} (m : Meaning Number) (lawful : Sound m) where
   -- a well-formed pair stands for what is read in it
@@ -73,11 +76,11 @@ module _ {Number : Type 0} (m : Meaning Number) (lawful : Sound m) where
         let z = mix q r t k (λ n. read_at m [] before (place r t g k n)) l in
         subst (λ x. is_well_formed_at m after x ≡ true) e (stands_sound [] z after (place r t g k l) d (read_mixed [] g k l hg hk hl))
 
-  pub finished : (p : Plan) (t radix span groups q : ℕ) (before after : List (Number × Number)) → q ≡ p.twiddle_scale → p.size ≤ length before → Shaped p t (Some (radix, span)) → Found m before p.size None → groups ≡ p.size / (radix * span) → ((n : ℕ) → span ≡ radix ^ n → Making m q radix n groups (groups * span) before after) → length after ≡ length before → Stage m p t before after
+  pub finished : (p : Plan) (t radix span groups q : ℕ) (before after : List (Number × Number)) → q ≡ p.twiddle_scale → p.size ≤ length before → Shape p t radix span → Found m before p.size None → groups ≡ p.size / (radix * span) → ((n : ℕ) → span ≡ radix ^ n → Making m q radix n groups (groups * span) before after) → length after ≡ length before → Stage m p t before after
   finished p t radix span groups q before after eq long shape formed eg making same =
       record {
         long = long;
-        moment = shape.0;
+        moment = shape.moment;
         formed = formed;
         mixed = mixed;
         read = λ v g k l hg hk hl. subst (λ c. StandsAt m v (mix c r t k (λ i. read_at m v before (place r t g k i)) l) after (place r t g k l)) eq (read_mixed q r t (r ^ u) before after (base_two p.method) long' same formed' made v g k l hg hk hl);
@@ -94,22 +97,22 @@ module _ {Number : Type 0} (m : Meaning Number) (lawful : Sound m) where
       u = stages_in p - suc t
 
       size_is : p.size ≡ r ^ stages_in p
-      size_is = powered p.method (staging_of p.method p.size t shape.0) p.size p.size_lawful
+      size_is = powered p.method (staging_of p.method p.size t shape.moment) p.size p.size_lawful
 
       size-as : p.size ≡ r ^ u * r ^ suc t
-      size-as = size_is ∙ power_splits r t (stages_in p) shape.0 ∙ ap (λ x. r ^ u * x) (sym (pow-succ' r t))
+      size-as = size_is ∙ power_splits r t (stages_in p) shape.moment ∙ ap (λ x. r ^ u * x) (sym (pow-succ' r t))
 
       left : stages_in p - t ≡ suc u
-      left = omega (arith, shape.0)
+      left = omega (arith, shape.moment)
 
       groups-is : groups ≡ r ^ u
-      groups-is = eg ∙ ap (λ x. p.size / (x * span)) shape.1 ∙ groups_are r t (stages_in p) p.size span (base_two p.method) shape.0 size_is shape.2
+      groups-is = eg ∙ ap (λ x. p.size / (x * span)) shape.radix ∙ groups_are r t (stages_in p) p.size span (base_two p.method) shape.moment size_is shape.power
 
       made : Making m q r t (r ^ u) (r ^ u * r ^ t) before after
       made =
-          subst (λ x. Making m q r t (r ^ u) (r ^ u * x) before after) shape.2
+          subst (λ x. Making m q r t (r ^ u) (r ^ u * x) before after) shape.power
           (subst (λ x. Making m q r t x (x * span) before after) groups-is
-          (subst (λ x. Making m q x t groups (groups * span) before after) shape.1 (making t (shape.2 ∙ ap (λ x. x ^ t) (sym shape.1)))))
+          (subst (λ x. Making m q x t groups (groups * span) before after) shape.radix (making t (shape.power ∙ ap (λ x. x ^ t) (sym shape.radix)))))
 
       long' : r ^ u * r ^ suc t ≤ length before
       long' = omega (arith, size-as)
@@ -119,3 +122,17 @@ module _ {Number : Type 0} (m : Meaning Number) (lawful : Sound m) where
 
       mixed : (v : View) (d : Number × Number) → Staged (StandsPair m v) p.twiddle_scale r t u (entries d before) (entries d after)
       mixed v d = subst (λ c. Staged (StandsPair m v) c r t u (entries d before) (entries d after)) eq (λ g k hg hk. made.done v d g k hg hk (digits_lt hg hk))
+
+-- ---- refusals, with the block as it was
+
+module _ {Number : Type 0} (m : Meaning Number) (p : Plan) (t : ℕ) (xs : List (Number × Number)) where
+  pub refused : (x : Result (Unit {0}) Refusal) (e y : Refusal) → x ≡ Err y → e ≡ y → StageRefused m p t xs e → StageAnswer m p t xs xs x
+  refused x e y h same why = subst (λ o. StageAnswer m p t xs xs o) (sym h) (refl, subst (λ o. StageRefused m p t xs o) same why)
+
+  -- no power of the radix below the size: no such stage
+  pub no_moment : (r : ℕ) (o : Option ℕ) (e : Refusal) → r ≡ base p.method → p.size ≡ r ^ stages_in p → p.size ≤ length xs → PowerBelow r t p.size o → ok_or o Moment ≡ Err e → StageRefused m p t xs e
+  no_moment r None e rb z long more is = let same : Moment ≡ e = cc in subst (λ o. StageRefused m p t xs o) same (long, unshaped p t r rb z more)
+  no_moment r (Some x) e rb z long more is = cc
+
+  pub not_formed : (e : Refusal) → p.size ≤ length xs → t < stages_in p → Tested m xs p.size (Err e) → StageRefused m p t xs e
+  not_formed e long moment (i, is, found) = subst (λ o. StageRefused m p t xs o) (sym is) (long, moment, found)

@@ -1,6 +1,7 @@
 pub mod Blocks
 pub mod Carrying
 pub mod Crossing
+pub mod Entries
 pub mod Finishing
 pub mod Making
 pub mod Reversal

@@ -1,6 +1,6 @@
 -- Counting: groups, offsets and powers.
-use Rattle.std.proofs.Common.{◌≡◌, ℕ, suc, ◌+◌, ◌-◌, ◌*◌, ◌/◌, ◌^◌, ◌<◌, ◌≤◌, true, ◌⊎◌, Some, None, sym, refl, ap, ◌∙◌, subst, inl, inr, mul-le-mul_right, suc-mul, mul_comm, div-lt_iff_lt-mul, mul-le-mul_left, one-mul, pow-suc, mul-div_cancel, arith, pow-add}
-use native.Mathlib.Nat.{pow-succ', pow-le-pow_right}
+use Rattle.std.proofs.Common.{◌≡◌, ℕ, suc, ◌+◌, ◌-◌, ◌*◌, ◌/◌, ◌^◌, ◌<◌, ◌≤◌, true, sym, ap, ◌∙◌, mul-le-mul_right, suc-mul, mul_comm, mul-le-mul_left, pow-suc, mul-div_cancel, arith, pow-add}
+use native.Mathlib.Nat.{pow-succ', pow-le-pow_right, pow-le-pow_left}
 use native.Mathlib.Decide.{dec_lt}
 use Rattle.plan.specs.declared.method.Method.{Method}
 use Rattle.plan.specs.declared.method.Method.TheVariants.{Direct, Radix2, Radix4}
@@ -9,25 +9,12 @@ use Rattle.plan.specs.Methods.{base, sized}
 use Rattle.plan.proofs.Powers.{at_most_256}
 use Rattle.lines.specs.Lines.{stage_count}
 use Rattle.lines.proofs.Sizes.{size2, size4}
-use Rattle.stages.specs.Stage.{stages_in, Shaped}
+use Rattle.stages.specs.Stage.{stages_in}
 use Rattle.stages.proofs.Reversal.{power_some}
 
--- there are fewer butterflies than places
-pub count_small : (groups r span limit : ℕ) → 1 ≤ r → groups * (r * span) ≤ limit → groups * span ≤ limit
-count_small groups r span limit one h =
-    let a : 1 * span ≤ r * span = mul-le-mul_right span one in
-    let b : groups * (1 * span) ≤ groups * (r * span) = mul-le-mul_left groups a in
-    let e : groups * (1 * span) ≡ groups * span = ap (λ x. groups * x) (one-mul span) in
-    omega arith
-
--- the group of butterfly n is one of the groups, and ends within them
-pub group_below : (n groups span : ℕ) → 0 < span → n < groups * span → n / span < groups
-group_below n groups span some h = (div-lt_iff_lt-mul some).1 h
-
-pub group_fits : (n groups r span limit : ℕ) → 0 < span → n < groups * span → groups * (r * span) ≤ limit → n / span * (r * span) + r * span ≤ limit
-group_fits n groups r span limit some h l =
-    let a : suc (n / span) * (r * span) ≤ groups * (r * span) = mul-le-mul_right (r * span) (group_below n groups span some h) in
-    omega (arith, suc-mul (n / span) (r * span))
+-- a group ends within all of them
+pub group_fits : (group groups n limit : ℕ) → group < groups → groups * n ≤ limit → group * n + n ≤ limit
+group_fits group groups n limit h l = let a : suc group * n ≤ groups * n = mul-le-mul_right n h in omega (arith, suc-mul group n)
 
 -- powers are ordered as their exponents
 pub power_orders : (r t n : ℕ) → 1 < r → r ^ t < r ^ n → t < n
@@ -48,8 +35,12 @@ power_reaches r t n h l = go (dec_lt t n)
         let c : r ^ t * 2 ≤ r ^ t * r = mul-le-mul_left (r ^ t) h in
         absurd (omega (arith, pow-suc r t))
 
-pub power_passes : (r i t size : ℕ) → 1 < r → i < t → size ≤ r ^ i → size ≤ r ^ t
-power_passes r i t size h l s = let b : r ^ i ≤ r ^ t = pow-le-pow_right {n = r} (omega arith) {i = i} {j = t} (omega arith) in omega arith
+-- no size is above the ninth power of a radix
+pub power_large : (r t size : ℕ) → 1 < r → 9 ≤ t → size ≤ 256 → size ≤ r ^ t
+power_large r t size h l s =
+    let a : 2 ^ 9 ≤ r ^ 9 = pow-le-pow_left h 9 in
+    let b : r ^ 9 ≤ r ^ t = pow-le-pow_right {n = r} (omega arith) {i = 9} {j = t} l in
+    omega arith
 
 -- r^n = r^(n − (t + 1)) · (r · r^t)
 pub power_splits : (r t n : ℕ) → t < n → r ^ n ≡ r ^ (n - suc t) * (r * r ^ t)
@@ -79,47 +70,32 @@ base_two Direct = omega arith
 base_two Radix2 = omega arith
 base_two Radix4 = omega arith
 
-pub base_four : (k : Method) → base k ≤ 4
-base_four Direct = omega arith
-base_four Radix2 = omega arith
-base_four Radix4 = omega arith
-
-pub base_either : (k : Method) → (base k ≡ 2) ⊎ (base k ≡ 4)
-base_either Direct = inl refl
-base_either Radix2 = inl refl
-base_either Radix4 = inr refl
-
 -- their sizes are powers of the radix, one for each stage
 pub powered : (k : Method) → Staging k → (m : ℕ) → sized k m ≡ true → m ≡ base k ^ stage_count k m
 powered Direct n m h = absurd n
 powered Radix2 n m h = sym (size2 m h)
 powered Radix4 n m h = sym (size4 m h)
 
-pub shaped_some : (p : Plan) (k : Method) → Staging k → p.method ≡ k → (t r span : ℕ) → r ≡ base k → span ≡ r ^ t → span < p.size → Shaped p t (Some (r, span))
-shaped_some p k st e t r span rb sp less =
-    let st' : Staging p.method = subst Staging (sym e) st in
-    let rb' : r ≡ base p.method = rb ∙ ap base (sym e) in
-    let z : p.size ≡ base p.method ^ stages_in p = powered p.method st' p.size p.size_lawful in
-    let sp' : span ≡ base p.method ^ t = sp ∙ ap (λ x. x ^ t) rb' in
-    let below : base p.method ^ t < base p.method ^ stages_in p = omega arith in
-    (power_orders (base p.method) t (stages_in p) (base_two p.method) below, rb', sp')
+-- the plan has a stage t + 1, r is its radix and `span` is r^t
+pub record Shape (p : Plan) (t r span : ℕ) : Type 0 where
+  pub moment : t < stages_in p
+  pub radix : r ≡ base p.method
+  pub power : span ≡ base p.method ^ t
 
-pub shaped_none : (p : Plan) (k : Method) → Staging k → p.method ≡ k → (t r : ℕ) → r ≡ base k → p.size ≤ r ^ t → Shaped p t None
-shaped_none p k st e t r rb more =
-    let st' : Staging p.method = subst Staging (sym e) st in
-    let rb' : r ≡ base p.method = rb ∙ ap base (sym e) in
-    let z : p.size ≡ base p.method ^ stages_in p = powered p.method st' p.size p.size_lawful in
-    let w : r ^ t ≡ base p.method ^ t = ap (λ x. x ^ t) rb' in
-    power_reaches (base p.method) t (stages_in p) (base_two p.method) (omega arith)
+pub shaped : (p : Plan) (t r span : ℕ) → r ≡ base p.method → p.size ≡ r ^ stages_in p → span ≡ r ^ t → span < p.size → Shape p t r span
+shaped p t r span rb z sp less = record { moment = power_orders r t (stages_in p) (omega (arith, base_two p.method)) (omega arith); radix = rb; power = sp ∙ ap (λ x. x ^ t) rb }
+
+pub unshaped : (p : Plan) (t r : ℕ) → r ≡ base p.method → p.size ≡ r ^ stages_in p → p.size ≤ r ^ t → stages_in p ≤ t
+unshaped p t r rb z more = power_reaches r t (stages_in p) (omega (arith, base_two p.method)) (omega arith)
 
 -- the lines that a stage makes are no longer than the size
-pub size_step : (p : Plan) (t r span : ℕ) → Shaped p t (Some (r, span)) → (0 < span) × (0 < r * span) × (r * span ≤ 256)
+pub size_step : (p : Plan) (t r span : ℕ) → Shape p t r span → (0 < span) × (0 < r * span) × (r * span ≤ 256)
 size_step p t r span shape =
     let b = base p.method in
-    let z : p.size ≡ b ^ stages_in p = powered p.method (staging_of p.method p.size t shape.0) p.size p.size_lawful in
-    let e : r * span ≡ b ^ suc t = ap (λ x. x * span) shape.1 ∙ ap (λ x. b * x) shape.2 ∙ sym (pow-succ' b t) in
-    let up : b ^ suc t ≤ b ^ stages_in p = pow-le-pow_right {n = b} (omega (arith, base_two p.method)) {i = suc t} {j = stages_in p} shape.0 in
+    let z : p.size ≡ b ^ stages_in p = powered p.method (staging_of p.method p.size t shape.moment) p.size p.size_lawful in
+    let e : r * span ≡ b ^ suc t = ap (λ x. x * span) shape.radix ∙ ap (λ x. b * x) shape.power ∙ sym (pow-succ' b t) in
+    let up : b ^ suc t ≤ b ^ stages_in p = pow-le-pow_right {n = b} (omega (arith, base_two p.method)) {i = suc t} {j = stages_in p} shape.moment in
     let some : 0 < b ^ suc t = power_some b (suc t) (omega (arith, base_two p.method)) in
     let few : 0 < b ^ t = power_some b t (omega (arith, base_two p.method)) in
     let top : p.size ≤ 256 = at_most_256 p.method p.size p.size_lawful in
-    (omega (arith, shape.2), omega arith, omega arith)
+    (omega (arith, shape.power), omega arith, omega arith)

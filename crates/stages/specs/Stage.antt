@@ -36,11 +36,6 @@ PowerBelow r t m None = m ≤ r ^ t
 abbrev pub stages_in : Plan → ℕ
 stages_in p = stage_count p.method p.size
 
--- the radix r and r^t where the plan has a stage t + 1
-abbrev pub Shaped : Plan → ℕ → Option (ℕ × ℕ) → Type 0
-Shaped p t (Some x) = (t < stages_in p) × (x.0 ≡ base p.method) × (x.1 ≡ base p.method ^ t)
-Shaped p t None = stages_in p ≤ t
-
 -- Stage t + 1 of a plan, from lines of size r^t to lines of size r^(t + 1), r being the radix.
 pub record Stage {Number : Type 0} (m : Meaning Number) (p : Plan) (t : ℕ) (before after : List (Number × Number)) : Type 0 where
   -- the block is long enough, there is such a stage, every pair is well formed

@@ -1,5 +1,5 @@
 // One direct line.
-ghost use Rattle.std.specs.Prelude.{◌≡◌, ℕ, ◌*◌, ◌/◌, ◌<◌, ◌≤◌, length, slice_index_or};
+ghost use Rattle.std.specs.Prelude.{◌≡◌, ℕ, ◌*◌, ◌/◌, ◌<◌, ◌≤◌, length};
 ghost use Rattle.integers.specs.Complex.{◌⊗◌};
 ghost use Rattle.integers.specs.declared.Complex.{Complex as Value};
 ghost use Rattle.circle.specs.Twiddle.{twiddle as twiddle_of};
@@ -8,48 +8,51 @@ ghost use Rattle.scheme.specs.Hidden.{StandsPair};
 ghost use Rattle.lines.specs.Lines.{direct_line_of};
 ghost use Rattle.stages.specs.Direct.{DirectAnswer, Samples};
 
-use crate::block::at;
-use crate::search::first_malformed;
+use crate::search::all_well_formed;
 use circle::twiddle;
 use plan::Plan;
 use refusal::Refusal;
 use scheme::{Scheme, pairs};
 
-// Sample n times its twiddle in line k.
-fn product_at<S: Scheme>(
-    s: &mut S,
+// Line k of a size.
+#[derive(Clone, Copy)]
+struct Line {
     scale: u32,
     size: usize,
     k: usize,
-    n: usize,
-    block: &[(S::Number, S::Number)],
-) -> (S::Number, S::Number)
-    requires { (n < size) × ((k < size) × ((size ≤ 256) × (size ≤ length block.now))) }
-    ensures value { (v : View) (z : Value) → ((d : S.Number × S.Number) → StandsPair (S.meaning s.old) v z (slice_index_or block.now n d)) → StandsPair (S.meaning s.old) v (twiddle_of scale (n * k * (256 / size)) ⊗ z) result }
-    ensures frame { S.meaning s.new ≡ S.meaning s.old }
-{
-    let factor = twiddle(n * k * (256 / size), scale);
-    pairs::product(s, factor, at(block, n))
+    ghost below: { k < size },
+    ghost small: { size ≤ 256 },
 }
 
-// Line k: the first product, then one product and one sum for each further sample.
-fn sum_of_products<S: Scheme>(
-    s: &mut S,
-    scale: u32,
-    size: usize,
-    k: usize,
-    block: &[(S::Number, S::Number)],
-) -> (S::Number, S::Number)
-    requires { (k < size) × ((size ≤ 256) × (size ≤ length block.now)) }
-    ensures value { (v : View) (x : ℕ → Value) → Samples (S.meaning s.old) v size x block.now → StandsPair (S.meaning s.old) v (direct_line_of scale size x k) result }
-    ensures frame { S.meaning s.new ≡ S.meaning s.old }
-{
-    let mut total = product_at(s, scale, size, k, 0, block);
-    for n in 1..size {
-        let next = product_at(s, scale, size, k, n, block);
-        total = pairs::sum(s, total, next);
+impl Line {
+    // Sample n times its twiddle.
+    fn product<S: Scheme>(
+        self,
+        s: &mut S,
+        n: usize,
+        sample: (S::Number, S::Number),
+    ) -> (S::Number, S::Number)
+        requires { n < self.size }
+        ensures value { (v : View) (z : Value) → StandsPair (S.meaning s.old) v z sample → StandsPair (S.meaning s.old) v (twiddle_of self.scale (n * self.k * (256 / self.size)) ⊗ z) result }
+        ensures frame { S.meaning s.new ≡ S.meaning s.old }
+    {
+        let factor = twiddle(n * self.k * (256 / self.size), self.scale);
+        pairs::product(s, factor, sample)
     }
-    total
+
+    // The line over all samples: the first product, then one product and one sum for each further sample.
+    fn sum<S: Scheme>(self, s: &mut S, samples: &[(S::Number, S::Number)]) -> (S::Number, S::Number)
+        requires { length samples.now ≡ self.size }
+        ensures value { (v : View) (x : ℕ → Value) → Samples (S.meaning s.old) v self.size x samples.now → StandsPair (S.meaning s.old) v (direct_line_of self.scale self.size x self.k) result }
+        ensures frame { S.meaning s.new ≡ S.meaning s.old }
+    {
+        let mut total = self.product(s, 0, samples[0]);
+        for (n, sample) in samples.iter().enumerate().skip(1) {
+            let next = self.product(s, n, *sample);
+            total = pairs::sum(s, total, next);
+        }
+        total
+    }
 }
 
 // Direct line k over the first M places, M being the plan's size: M products and M − 1 sums. Refuses with Block where the block has
@@ -65,14 +68,15 @@ pub fn direct_line<S: Scheme>(
     ensures frame { S.meaning s.new ≡ S.meaning s.old }
 {
     let size = plan.size();
-    if block.len() < size {
-        return Err(Refusal::Block);
-    }
+    let samples = block.get(..size).ok_or(Refusal::Block)?;
     if k >= size {
         return Err(Refusal::Place);
     }
-    if let Some(place) = first_malformed(s, block, size) {
-        return Err(Refusal::Malformed(place));
-    }
-    Ok(sum_of_products(s, plan.twiddle_scale(), size, k, block))
+    all_well_formed(s, block, size)?;
+    let line = Line {
+        scale: plan.twiddle_scale(),
+        size,
+        k,
+    };
+    Ok(line.sum(s, samples))
 }

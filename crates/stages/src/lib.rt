@@ -2,7 +2,6 @@
 // one direct line.
 #![tactic(auto)]
 
-mod block;
 mod butterfly;
 mod direct;
 mod place;

@@ -1,25 +1,50 @@
-use Rattle.std.proofs.Common.{◌≡◌, ℕ, ◌<◌, true, false, sym, ◌∙◌, arith, below_more}
+use Rattle.std.proofs.Common.{◌≡◌, ℕ, ◌<◌, ◌≤◌, Bool, true, false, ltb, min, List, length, get_or, take, sym, refl, ◌∙◌, subst, arith, below_more, length-take}
+use Rattle.std.specs.Bool.{then_some}
+use Rattle.std.proofs.lemmas.Bool.{ltb-true, ltb-false}
+use Rattle.std.proofs.lemmas.List.{get_or-take}
+use Rattle.scheme.specs.Meaning.{Meaning}
+use Rattle.scheme.specs.Hidden.{well_formed}
 use Rattle.stages.specs.Block.{is_well_formed_at}
+use Rattle.stages.specs.Search.{Found}
+use Rattle.stages.proofs.Blocks.{sound_past, sound_there}
 use Rattle.stages.proofs.search.first_malformed.Goals as goal
 
-pub returns-then-not-well_formed_at : goal.returns-then-not-well_formed_at
-returns-then-not-well_formed_at g c =
+-- what the test of a pair at a place says of the place
+tested : {Number : Type 0} (m : Meaning Number) (xs : List (Number × Number)) (n i : ℕ) (p : Number × Number) (b : Bool) → n ≤ length xs → i < length (take n xs) → p ≡ get_or (take n xs) i p → b ≡ well_formed m p → is_well_formed_at m xs i ≡ b
+tested m xs n i p b long less is e =
+    let l : length (take n xs) ≡ n = omega (arith, length-take n xs) in
+    sound_there m xs i p (omega arith) (is ∙ get_or-take n xs i p (omega arith)) ∙ sym e
+
+-- past the end of the block there is no pair
+found_end : {Number : Type 0} (m : Meaning Number) (xs : List (Number × Number)) (count there : ℕ) (b : Bool) → ltb there count ≡ b → there ≡ min (length xs) count → ((k : ℕ) → k < there → is_well_formed_at m xs k ≡ true) → Found m xs count (then_some b there)
+found_end m xs count there true e h ok = let a = ltb-true there count e in (a, sound_past m xs there (omega arith), ok)
+found_end m xs count there false e h ok = let a = ltb-false there count e in λ k less. ok k (omega arith)
+
+pub returns-then-not-test-clause-value : goal.returns-then-not-test-clause-value
+returns-then-not-test-clause-value g c =
     let m = g.S.Scheme.meaning c.args.s.now in
-    let f : g.S.Scheme.meaning c.loop-i.s ≡ m = c.loop-i.invariant.0 in
-    let e : is_well_formed_at m c.args.block.now c.loop-i.i ≡ false = rw f at (sym c.well_formed_at.ensures.value ∙ c.if-not-well_formed_at.true) in
-    let b : (k : ℕ) → k < c.loop-i.i → is_well_formed_at m c.args.block.now k ≡ true = rw f at c.loop-i.invariant.1 in
-    record { value = (c.loop-i-test.true, e, b); frame = c.well_formed_at.ensures.frame ∙ f }
+    let f : g.S.Scheme.meaning c.loop-i.s ≡ m = c.loop-i.invariant.frame in
+    let e : c.test.result ≡ well_formed m c.pair-item.result = rw f at c.test.ensures.value in
+    let l = length-take c.min-there.result c.args.block.now in (
+      omega arith,
+      tested m c.args.block.now c.min-there.result c.loop-i.i c.pair-item.result c.test.result (omega arith) c.loop-i-test.true c.pair-item.is e ∙ c.if-not-test.true,
+      c.loop-i.invariant.tested,
+    )
 
 pub loop-i-preserved : goal.loop-i-preserved
 loop-i-preserved g c =
     let m = g.S.Scheme.meaning c.args.s.now in
-    let f : g.S.Scheme.meaning c.well_formed_at.new.s ≡ g.S.Scheme.meaning c.loop-i.s = c.well_formed_at.ensures.frame in
-    let e : is_well_formed_at (g.S.Scheme.meaning c.loop-i.s) c.args.block.now c.loop-i.i ≡ true = sym c.well_formed_at.ensures.value ∙ c.if-not-well_formed_at.false in
-    (f ∙ c.loop-i.invariant.0, rw f (below_more _ _ c.loop-i.invariant.1 e))
+    let f : g.S.Scheme.meaning c.loop-i.s ≡ m = c.loop-i.invariant.frame in
+    let e : c.test.result ≡ well_formed m c.pair-item.result = rw f at c.test.ensures.value in
+    record {
+      frame = c.test.ensures.frame ∙ f;
+      tested = below_more _ _ c.loop-i.invariant.tested (tested m c.args.block.now c.min-there.result c.loop-i.i c.pair-item.result c.test.result (omega arith) c.loop-i-test.true c.pair-item.is e ∙ c.if-not-test.false);
+    }
 
-pub returns : goal.returns
-returns g c =
+pub returns-clause-value : goal.returns-clause-value
+returns-clause-value g c =
     let m = g.S.Scheme.meaning c.args.s.now in
-    let f : g.S.Scheme.meaning c.loop-i.s ≡ m = c.loop-i.invariant.0 in
-    let b : (k : ℕ) → k < c.loop-i.i → is_well_formed_at m c.args.block.now k ≡ true = rw f at c.loop-i.invariant.1 in
-    record { value = λ k h. b k (omega arith); frame = f }
+    let xs = c.args.block.now in
+    let there = c.min-there.result in
+    let l : c.loop-i.i ≡ there = omega (arith, length-take there xs) in
+    subst (λ o. Found m xs c.args.count o) (sym c.then_some.ensures) (found_end m xs c.args.count there (ltb there c.args.count) refl c.min-there.ensures (λ k less. c.loop-i.invariant.tested k (omega arith)))
