@@ -2,7 +2,6 @@
 // transform under each scheme and prints a checksum; with a number of rounds it prints times too.
 #![tactic(auto)]
 
-use anyhow::anyhow;
 use integers::Complex;
 use plain::Plain;
 use plan::{Method, Plan};
@@ -13,19 +12,14 @@ use stages::{place_of, stage};
 use std::env;
 use std::time::Instant;
 
-// Writes x at the place, if the block has it.
-fn put<T: Copy>(block: &mut [T], place: usize, x: T) {
-    if place < block.len() {
-        block[place] = x;
-    }
-}
-
 // Sample n: n² modulo 2001, less 1000, and the opposite.
 fn sample(n: usize) -> Complex {
     let re = (n.wrapping_mul(n) % 2001) as i64 - 1000;
     Complex { re, im: -re }
 }
 
+// Seals every sample and puts it at its place. The load of transforms_sweep, which draws other samples, stays beside this one: to share
+// these six lines is no plainer, since it takes a library of its own, with a contract and its proof, under two programs that assume none.
 fn load<S: Scheme>(
     s: &mut S,
     plan: &Plan,
@@ -34,7 +28,7 @@ fn load<S: Scheme>(
     for n in 0..plan.size() {
         let pair = pairs::seal(s, 1000, sample(n), (1, 1))?;
         let place = place_of(plan, n)?;
-        put(block, place, pair);
+        *block.get_mut(place).ok_or(Refusal::Block)? = pair;
     }
     Ok(())
 }
@@ -53,12 +47,10 @@ fn transform<S: Scheme>(
 
 // The exclusive or of the two components of every line.
 fn checksum<S: Scheme>(s: &mut S, block: &[(S::Number, S::Number)]) -> i64 {
-    let mut sum = 0;
-    for pair in block {
+    block.iter().fold(0, |sum, pair| {
         let Complex { re, im } = pairs::open(s, *pair);
-        sum ^= re ^ im;
-    }
-    sum
+        sum ^ re ^ im
+    })
 }
 
 // Loads and transforms so many times; the checksum of the last transform.
@@ -84,9 +76,7 @@ fn report<S: Scheme>(
     count: Option<u64>,
 ) -> anyhow::Result<()> {
     let start = Instant::now(rt)?;
-    let Ok(sum) = rounds(s, plan, block, count.unwrap_or(1)) else {
-        return Err(anyhow!("refused"));
-    };
+    let sum = rounds(s, plan, block, count.unwrap_or(1))?;
     let time = start.elapsed(rt)?.as_micros();
     println!(rt; "{name}: checksum {sum}")?;
     if let Some(count) = count {
@@ -96,16 +86,12 @@ fn report<S: Scheme>(
 }
 
 fn main(rt: HostRuntime) -> anyhow::Result<()> {
-    let count = match env::args(&rt)?.nth(1) {
-        Some(text) => Some(text.as_str().parse::<u64>()?),
-        None => None,
-    };
-    let Ok(plan) = Plan::new(Method::Radix4, 256, 1000, 100) else {
-        return Err(anyhow!("no plan"));
-    };
-    let Ok(mut plain) = Plain::new((1 << 61) - 1) else {
-        return Err(anyhow!("no modulus"));
-    };
+    let count = env::args(&rt)?
+        .nth(1)
+        .map(|text| text.as_str().parse::<u64>())
+        .transpose()?;
+    let plan = Plan::new(Method::Radix4, 256, 1000, 100)?;
+    let mut plain = Plain::new((1 << 61) - 1)?;
     report(&rt, "plain", &mut plain, &plan, &mut [(0, 0); 256], count)?;
     let zero = Halves {
         first: 0,

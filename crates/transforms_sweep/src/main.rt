@@ -42,14 +42,8 @@ fn component(kind: Kind, scale: u32, n: usize, component: u64) -> i64 {
     }
 }
 
-// Writes x at the place, if the block has it.
-fn put<T: Copy>(block: &mut [T], place: usize, x: T) {
-    if place < block.len() {
-        block[place] = x;
-    }
-}
-
-// Seals every sample and puts it at its place.
+// Seals every sample and puts it at its place. The load of bench, which takes other samples, stays beside this one: to share these six
+// lines is no plainer, since it takes a library of its own, with a contract and its proof, under two programs that assume none.
 fn load<S: Scheme>(
     s: &mut S,
     plan: &Plan,
@@ -64,7 +58,7 @@ fn load<S: Scheme>(
         };
         let pair = pairs::seal(s, u64::from(scale), sample, (1, 1))?;
         let place = place_of(plan, n)?;
-        put(block, place, pair);
+        *block.get_mut(place).ok_or(Refusal::Block)? = pair;
     }
     Ok(())
 }
@@ -78,10 +72,7 @@ fn line<S: Scheme>(
 ) -> Result<Complex, Refusal> {
     let pair = match plan.method() {
         Method::Direct => direct_line(s, plan, k, block)?,
-        Method::Radix2 | Method::Radix4 => match block.get(k) {
-            Some(pair) => *pair,
-            None => return Err(Refusal::Block),
-        },
+        Method::Radix2 | Method::Radix4 => *block.get(k).ok_or(Refusal::Block)?,
     };
     Ok(pairs::open(s, pair))
 }
@@ -95,9 +86,7 @@ fn transform<S: Scheme>(
     plan: &Plan,
     kind: Kind,
 ) -> anyhow::Result<()> {
-    let Ok(()) = load(s, plan, kind, block) else {
-        return Ok(rt.println("refused")?);
-    };
+    load(s, plan, kind, block)?;
     for t in 0..8 {
         if stage(s, plan, t, block).is_err() {
             break;
@@ -107,135 +96,81 @@ fn transform<S: Scheme>(
     let size = plan.size();
     println!(rt; "{name} {method} {size}")?;
     for k in 0..size {
-        match line(s, plan, k, block) {
-            Ok(Complex { re, im }) => println!(rt; "{k} {re} {im}")?,
-            Err(_) => rt.println("refused")?,
-        }
+        let Complex { re, im } = line(s, plan, k, block)?;
+        println!(rt; "{k} {re} {im}")?;
     }
     Ok(())
 }
 
-// Every lawful size up to `most`, by one method.
-fn print_sizes<S: Scheme>(
-    rt: &impl Print,
-    name: &str,
-    s: &mut S,
-    block: &mut [(S::Number, S::Number)],
-    method: Method,
-    most: u64,
-    kind: Kind,
-) -> anyhow::Result<()> {
-    for size in [1, 2, 4, 8, 16, 32, 64, 128, 256] {
-        if size > most {
-            break;
-        }
-        if let Ok(plan) = Plan::new(method, size, 1000, 100) {
-            transform(rt, name, s, block, &plan, kind)?;
-        }
-    }
-    Ok(())
-}
-
-// All three methods.
+// Every method at every lawful size for which the block has room.
 fn print_methods<S: Scheme>(
     rt: &impl Print,
     name: &str,
     s: &mut S,
     block: &mut [(S::Number, S::Number)],
-    most: u64,
     kind: Kind,
 ) -> anyhow::Result<()> {
-    print_sizes(rt, name, s, block, Method::Direct, most, kind)?;
-    print_sizes(rt, name, s, block, Method::Radix2, most, kind)?;
-    print_sizes(rt, name, s, block, Method::Radix4, most, kind)
+    let most = block.len() as u64;
+    for method in [Method::Direct, Method::Radix2, Method::Radix4] {
+        for size in [1, 2, 4, 8, 16, 32, 64, 128, 256] {
+            if size <= most && method.allows(size) {
+                let plan = Plan::new(method, size, 1000, 100)?;
+                transform(rt, name, s, block, &plan, kind)?;
+            }
+        }
+    }
+    Ok(())
 }
 
 // Plain residues, and splits over them.
 fn print_plain(rt: &impl Print) -> anyhow::Result<()> {
-    let Ok(mut plain) = Plain::new((1 << 62) - 1) else {
-        return Ok(());
-    };
-    print_methods(
-        rt,
-        "plain",
-        &mut plain,
-        &mut [(0, 0); 256],
-        256,
-        Kind::Spread,
-    )?;
-    print_methods(rt, "plain", &mut plain, &mut [(0, 0); 256], 256, Kind::Ends)?;
+    let mut plain = Plain::new((1 << 62) - 1)?;
+    for kind in [Kind::Spread, Kind::Ends] {
+        print_methods(rt, "plain", &mut plain, &mut [(0, 0); 256], kind)?;
+    }
     let once = Halves {
         first: 0,
         second: 0,
     };
     let mut split = Split::new(plain);
-    print_methods(
-        rt,
-        "split",
-        &mut split,
-        &mut [(once, once); 16],
-        16,
-        Kind::Spread,
-    )?;
+    let mut block = [(once, once); 16];
+    print_methods(rt, "split", &mut split, &mut block, Kind::Spread)?;
     let twice = Halves {
         first: once,
         second: once,
     };
     let mut split = Split::new(Split::new(plain));
-    print_methods(
-        rt,
-        "split twice",
-        &mut split,
-        &mut [(twice, twice); 16],
-        16,
-        Kind::Ends,
-    )
+    let mut block = [(twice, twice); 16];
+    print_methods(rt, "split twice", &mut split, &mut block, Kind::Ends)
 }
 
 // The largest residue system, and the split over it.
 fn print_system(rt: &impl Print) -> anyhow::Result<()> {
-    let Ok(mut system) = System::new(1_048_575, 1_048_573, 1_048_571) else {
-        return Ok(());
-    };
+    let mut system = System::new(1_048_575, 1_048_573, 1_048_571)?;
     let zero = Residues {
         first: 0,
         second: 0,
         third: 0,
     };
-    print_methods(
-        rt,
-        "system",
-        &mut system,
-        &mut [(zero, zero); 16],
-        16,
-        Kind::Spread,
-    )?;
+    let mut block = [(zero, zero); 16];
+    print_methods(rt, "system", &mut system, &mut block, Kind::Spread)?;
     let halves = Halves {
         first: zero,
         second: zero,
     };
     let mut split = Split::new(system);
-    print_methods(
-        rt,
-        "split system",
-        &mut split,
-        &mut [(halves, halves); 16],
-        16,
-        Kind::Ends,
-    )
+    let mut block = [(halves, halves); 16];
+    print_methods(rt, "split system", &mut split, &mut block, Kind::Ends)
 }
 
 // A scheme from outside the library.
 fn print_rerandomised(rt: &impl Print) -> anyhow::Result<()> {
-    let Ok(mut scheme) = Rerandomised::new((1 << 62) - 1) else {
-        return Ok(());
-    };
+    let mut scheme = Rerandomised::new((1 << 62) - 1)?;
     print_methods(
         rt,
         "rerandomised",
         &mut scheme,
         &mut [(0, 0); 16],
-        16,
         Kind::Spread,
     )
 }
