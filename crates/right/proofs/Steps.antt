@@ -10,8 +10,7 @@ use Rattle.plan.specs.Meaning.{figures_of, least_modulus_of}
 use Rattle.plan.specs.Making.{Has, refused}
 use Rattle.lines.specs.Places.{place_of}
 use Rattle.scheme.specs.Meaning.{Meaning, Sound}
-use Rattle.scheme.specs.Hidden.{WellFormed}
-use Rattle.stages.specs.Block.{well_formed as sound}
+use Rattle.scheme.specs.Hidden.{WellFormed, well_formed}
 use Rattle.states.specs.declared.Kept.{Kept}
 use Rattle.states.specs.declared.State.{State}
 use Rattle.states.specs.declared.State.TheVariants.{Idle, Filling, Running, Finished}
@@ -81,7 +80,7 @@ module _ {N : Type 0} (m : Meaning N) (ok : Sound m) (force : Option Numbers) (g
   load_kept kept count n x bl a st' bl' d h (f, t) =
       let (place, later) = unless_none (leb n count && ltb n kept.plan.size) Place _ d in
       let (modulus, last) = unless_none (eqb m.modulus kept.modulus) Strange _ later in
-      let (formed, end) = unless_none (sound m x) (Malformed n) None last in
+      let (formed, end) = unless_none (well_formed m x) (Malformed n) None last in
       let (low, below) = both_true (leb n count) (ltb n kept.plan.size) place in
       let (re, im) = both_true (m.wf x.0) (m.wf x.1) formed in
       let w : WellFormed m x = record { re = re; im = im } in

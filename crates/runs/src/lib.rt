@@ -6,7 +6,6 @@ ghost use Rattle.runs.specs.Guards.{OneRun, OneWrong, Reaches, SealedLinesRight,
 ghost use Rattle.runs.specs.Runs.{RunOf, Noted};
 ghost use Rattle.secrecy.specs.Secrecy.{SecrecyStands};
 
-use refusal::Refusal;
 use scheme::Scheme;
 use states::{Answer, Call};
 use std::alloc::{AllocError, Global};

@@ -6,7 +6,8 @@ use Rattle.scheme.specs.Meaning.{Meaning}
 use Rattle.plain.specs.Residues.{residues}
 use Rattle.split.specs.declared.halves.Halves.{Halves}
 use Rattle.split.specs.Shares.{split}
-use Rattle.stages.specs.Block.{well_formed as sound, is_well_formed_at as sound_at}
+use Rattle.scheme.specs.Hidden.{well_formed}
+use Rattle.stages.specs.Block.{is_well_formed_at}
 use Rattle.states.specs.Step.{Pairs, first_malformed_place, malformed_from}
 use Rattle.secrecy.specs.Secrecy.{halves}
 
@@ -22,7 +23,7 @@ abbrev pub Known : Type 0
 Known = (ℕ × ℕ) × Bool
 
 abbrev pub known : ℕ → Bool → Pair → Known
-known n h x = (halves h x, sound (shares n) x)
+known n h x = (halves h x, well_formed (shares n) x)
 
 -- for the house h the blocks are alike
 abbrev pub Alike : ℕ → Bool → Pairs (Halves ℕ) → Pairs (Halves ℕ) → Type 0
@@ -50,9 +51,9 @@ module _ (n : ℕ) (h : Bool) where
   pub alike_held : (xs ys : Pairs (Halves ℕ)) → Alike n h xs ys → map (halves h) xs ≡ map (halves h) ys
   alike_held xs ys e = sym (map_over (known n h) (λ (k : Known). k.0) xs) ∙ ap (map (λ (k : Known). k.0)) e ∙ map_over (known n h) (λ (k : Known). k.0) ys
 
-  pub alike_sound : (xs ys : Pairs (Halves ℕ)) → Alike n h xs ys → (i : ℕ) → sound_at (shares n) xs i ≡ sound_at (shares n) ys i
-  unfolding sound_at
-  alike_sound xs ys e i =
+  pub alike_formed : (xs ys : Pairs (Halves ℕ)) → Alike n h xs ys → (i : ℕ) → is_well_formed_at (shares n) xs i ≡ is_well_formed_at (shares n) ys i
+  unfolding is_well_formed_at
+  alike_formed xs ys e i =
       ap (λ (bs : List Bool). get_or bs i false)
       (sym (map_over (known n h) (λ (k : Known). k.1) xs) ∙ ap (map (λ (k : Known). k.1)) e ∙ map_over (known n h) (λ (k : Known). k.1) ys)
 
@@ -72,7 +73,7 @@ module _ (n : ℕ) (h : Bool) where
   alike_from : (xs ys : Pairs (Halves ℕ)) → Alike n h xs ys → (i k : ℕ) → malformed_from (shares n) xs i k ≡ malformed_from (shares n) ys i k
   alike_from xs ys e i zero = refl
   alike_from xs ys e i (suc k) =
-      ap₂ (λ (b : Bool) (later : Option ℕ). cond b later (Some i)) (alike_sound xs ys e i) (alike_from xs ys e (suc i) k)
+      ap₂ (λ (b : Bool) (later : Option ℕ). cond b later (Some i)) (alike_formed xs ys e i) (alike_from xs ys e (suc i) k)
 
   pub alike_malformed : (xs ys : Pairs (Halves ℕ)) → Alike n h xs ys → (k : ℕ) → first_malformed_place (shares n) xs k ≡ first_malformed_place (shares n) ys k
   unfolding first_malformed_place
@@ -80,35 +81,35 @@ module _ (n : ℕ) (h : Bool) where
 
 -- where no place below k is malformed, each of them is well formed
 module _ (m : Meaning (Halves ℕ)) where
-  sound_both : (b : Bool) (i : ℕ) (later : Option ℕ) → cond b later (Some i) ≡ None → b ≡ true
-  sound_both true i later e = refl
-  sound_both false i later e = let z : ◌≡◌ {A = ℕ} 0 1 = cc in absurd (omega arith)
+  formed_both : (b : Bool) (i : ℕ) (later : Option ℕ) → cond b later (Some i) ≡ None → b ≡ true
+  formed_both true i later e = refl
+  formed_both false i later e = let z : ◌≡◌ {A = ℕ} 0 1 = cc in absurd (omega arith)
 
-  sound_later : (b : Bool) (i : ℕ) (later : Option ℕ) → cond b later (Some i) ≡ None → later ≡ None
-  sound_later true i later e = e
-  sound_later false i later e = let z : ◌≡◌ {A = ℕ} 0 1 = cc in absurd (omega arith)
+  formed_later : (b : Bool) (i : ℕ) (later : Option ℕ) → cond b later (Some i) ≡ None → later ≡ None
+  formed_later true i later e = e
+  formed_later false i later e = let z : ◌≡◌ {A = ℕ} 0 1 = cc in absurd (omega arith)
 
-  sound_from : (xs : Pairs (Halves ℕ)) (k i j : ℕ) → malformed_from m xs i k ≡ None → i ≤ j → j < i + k → sound_at m xs j ≡ true
-  sound_from xs zero i j e a b = absurd (omega arith)
-  sound_from xs (suc k) i j e a b =
+  formed_from : (xs : Pairs (Halves ℕ)) (k i j : ℕ) → malformed_from m xs i k ≡ None → i ≤ j → j < i + k → is_well_formed_at m xs j ≡ true
+  formed_from xs zero i j e a b = absurd (omega arith)
+  formed_from xs (suc k) i j e a b =
       let later = malformed_from m xs (suc i) k in
       elim (native.Mathlib.Decide.dec_le (suc i) j) [
-        | yes g ↦ sound_from xs k (suc i) j (sound_later (sound_at m xs i) i later e) g (omega arith)
-        | no g ↦ let q : i ≡ j = omega arith in rw (← q) (sound_both (sound_at m xs i) i later e)
+        | yes g ↦ formed_from xs k (suc i) j (formed_later (is_well_formed_at m xs i) i later e) g (omega arith)
+        | no g ↦ let q : i ≡ j = omega arith in rw (← q) (formed_both (is_well_formed_at m xs i) i later e)
       ]
 
-  pub sound_below : (xs : Pairs (Halves ℕ)) (k : ℕ) → first_malformed_place m xs k ≡ None → (j : ℕ) → j < k → sound_at m xs j ≡ true
+  pub formed_below : (xs : Pairs (Halves ℕ)) (k : ℕ) → first_malformed_place m xs k ≡ None → (j : ℕ) → j < k → is_well_formed_at m xs j ≡ true
   unfolding first_malformed_place
-  sound_below xs k e j b = sound_from xs k 0 j e (omega arith) (omega arith)
+  formed_below xs k e j b = formed_from xs k 0 j e (omega arith) (omega arith)
 
-  pub sound_entry : (xs : Pairs (Halves ℕ)) (i : ℕ) → sound_at m xs i ≡ true → (d : Pair) → sound m (get_or xs i d) ≡ true
-  unfolding sound_at
-  sound_entry [] i e d = absurd (clash e)
-  sound_entry (x ∷ xs) zero e d = e
-  sound_entry (x ∷ xs) (suc i) e d = sound_entry xs i e d
+  pub formed_entry : (xs : Pairs (Halves ℕ)) (i : ℕ) → is_well_formed_at m xs i ≡ true → (d : Pair) → well_formed m (get_or xs i d) ≡ true
+  unfolding is_well_formed_at
+  formed_entry [] i e d = absurd (clash e)
+  formed_entry (x ∷ xs) zero e d = e
+  formed_entry (x ∷ xs) (suc i) e d = formed_entry xs i e d
 
-  pub sound_within : (xs : Pairs (Halves ℕ)) (i : ℕ) → sound_at m xs i ≡ true → i < length xs
-  unfolding sound_at
-  sound_within [] i e = absurd (clash e)
-  sound_within (x ∷ xs) zero e = omega arith
-  sound_within (x ∷ xs) (suc i) e = omega (arith, sound_within xs i e)
+  pub formed_within : (xs : Pairs (Halves ℕ)) (i : ℕ) → is_well_formed_at m xs i ≡ true → i < length xs
+  unfolding is_well_formed_at
+  formed_within [] i e = absurd (clash e)
+  formed_within (x ∷ xs) zero e = omega arith
+  formed_within (x ∷ xs) (suc i) e = omega (arith, formed_within xs i e)

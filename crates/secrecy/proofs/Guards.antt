@@ -10,7 +10,7 @@ use Rattle.plan.specs.declared.method.Method.TheVariants.{Direct}
 use Rattle.plan.specs.declared.plan.Plan.{Plan}
 use Rattle.lines.specs.Lines.{sum_below, direct_line_of}
 use Rattle.split.specs.declared.halves.Halves.{Halves}
-use Rattle.stages.specs.Block.{is_well_formed_at as sound_at, read_at}
+use Rattle.stages.specs.Block.{is_well_formed_at, read_at}
 use Rattle.states.specs.declared.Kept.{Kept}
 use Rattle.states.specs.declared.State.TheVariants.{Idle, Filling, Finished}
 use Rattle.states.specs.Step.{Pairs, first_malformed_place}
@@ -38,7 +38,7 @@ after =
     ∷ []
 
 run : Run (shares 81) Idle one_start one_calls after
-unfolding residue centred circle point fine turned twiddle rounded sum_below direct_line_of sound_at read_at first_malformed_place
+unfolding residue centred circle point fine turned twiddle rounded sum_below direct_line_of is_well_formed_at read_at first_malformed_place
 run = (
   Filling kept 0,
   record { plan = plan; has = record { method = refl; size = refl; sample = refl; twiddle = refl }; becomes = record { answer = refl; after = refl; holds = refl } },

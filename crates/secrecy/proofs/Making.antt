@@ -12,14 +12,14 @@ use Rattle.lines.specs.Lines.{mix}
 use Rattle.lines.specs.Places.{place}
 use Rattle.lines.proofs.Places.{place_below, place_group, place_offset, place_entry}
 use Rattle.scheme.specs.Meaning.{View}
-use Rattle.scheme.specs.Hidden.{StandsPair}
+use Rattle.scheme.specs.Hidden.{StandsPair, well_formed}
 use Rattle.split.specs.declared.halves.Halves.{Halves}
-use Rattle.stages.specs.Block.{well_formed as sound, is_well_formed_at as sound_at}
+use Rattle.stages.specs.Block.{is_well_formed_at}
 use Rattle.stages.specs.Stage.{entries}
 use Rattle.stages.proofs.Blocks.{sound_there}
 use Rattle.states.specs.Step.{Pairs, StageDone, stages_for, first_malformed_place}
 use Rattle.secrecy.specs.Secrecy.{half}
-use Rattle.secrecy.proofs.Blocks.{Pair, shares, sound_below, sound_within}
+use Rattle.secrecy.proofs.Blocks.{Pair, shares, formed_below, formed_within}
 use Rattle.secrecy.proofs.Stages.{group, offset, entry, place_of_digits, offset_below, entry_below, base_positive, size_covered}
 use Rattle.secrecy.proofs.Mixing.{Agree, agree_mix, mix_sum}
 
@@ -64,8 +64,8 @@ module _ (n : ℕ) (some : 0 < n) where
   halves_formed : (a b : ℤ) → (shares n).wf (record { first = residue a n; second = residue b n }) ≡ true
   halves_formed a b = rw (lt-ltb (residue a n) n (residue_below a n some), lt-ltb (residue b n) n (residue_below b n some)) refl
 
-  paired_sound : (a b : Complex) → sound (shares n) (paired n a b) ≡ true
-  paired_sound a b = rw (halves_formed a.re b.re, halves_formed a.im b.im) refl
+  paired_formed : (a b : Complex) → well_formed (shares n) (paired n a b) ≡ true
+  paired_formed a b = rw (halves_formed a.re b.re, halves_formed a.im b.im) refl
 
   -- a pair of numbers stands for z in a view where the half, or the sum of the halves, has the residues of z
   paired_stands : (a b z : Complex) (v : View) → (v ≡ [] → Agree n (a ⊕ b) z) → ((w : View) → v ≡ false ∷ w → Agree n a z) → ((w : View) → v ≡ true ∷ w → Agree n b z) → StandsPair (shares n) v z (paired n a b)
@@ -133,7 +133,7 @@ module _ (n : ℕ) (some : 0 < n) where
     long = values_length made 0 (length before)
 
     there : (i : ℕ) → i < p.size → i < length before
-    there i b = sound_within (shares n) before i (sound_below (shares n) before p.size clean i b)
+    there i b = formed_within (shares n) before i (formed_below (shares n) before p.size clean i b)
 
     at : (i : ℕ) (d : Pair) → i < length before → get_or after i d ≡ made i
     at i d b = values_at made 0 (length before) i d b ∙ ap made (native.Mathlib.Nat.zero-add i)
@@ -151,13 +151,13 @@ module _ (n : ℕ) (some : 0 < n) where
           | no l ↦ let a : length after ≤ i = omega (arith, long) in let c : length before ≤ i = omega arith in get_or-eq_default after d a ∙ sym (get_or-eq_default before d c)
         ]
 
-    formed : (i : ℕ) → i < p.size → sound_at (shares n) after i ≡ true
+    formed : (i : ℕ) → i < p.size → is_well_formed_at (shares n) after i ≡ true
     formed i b =
         let r : ℕ = base p.method in
         let x : Pair = output (group r t i) (offset r t i) (entry r t i) in
         let e : i < length after = omega (arith, long, there i b) in
         sound_there (shares n) after i x e (sym (at i x (there i b) ∙ among i b))
-        ∙ paired_sound (mix p.twiddle_scale r t (offset r t i) (λ j. part false (get_or before (place r t (group r t i) (offset r t i) j) nothing)) (entry r t i)) (mix p.twiddle_scale r t (offset r t i) (λ j. part true (get_or before (place r t (group r t i) (offset r t i) j) nothing)) (entry r t i))
+        ∙ paired_formed (mix p.twiddle_scale r t (offset r t i) (λ j. part false (get_or before (place r t (group r t i) (offset r t i) j) nothing)) (entry r t i)) (mix p.twiddle_scale r t (offset r t i) (λ j. part true (get_or before (place r t (group r t i) (offset r t i) j) nothing)) (entry r t i))
 
     staged : (v : View) (d : Pair) (g k : ℕ) → g < base p.method ^ (stages_for p - suc t) → k < base p.method ^ t → (x : ℕ → Complex) → ((i : ℕ) → i < base p.method → StandsPair (shares n) v (x i) (entries d before (place (base p.method) t g k i))) → (l : ℕ) → l < base p.method → StandsPair (shares n) v (mix p.twiddle_scale (base p.method) t k x l) (entries d after (place (base p.method) t g k l))
     staged v d g k hg hk x stood l hl =

@@ -16,7 +16,7 @@ use Rattle.scheme.specs.Meaning.{Meaning, Sound, View}
 use Rattle.plain.specs.Residues.{residues}
 use Rattle.split.specs.declared.halves.Halves.{Halves}
 use Rattle.split.proofs.Laws.{seal_splits}
-use Rattle.stages.specs.Block.{well_formed as sound}
+use Rattle.scheme.specs.Hidden.{well_formed}
 use Rattle.secrecy.specs.Secrecy.{half, hidden, hidden_pair, SealedAs}
 use Rattle.secrecy.specs.Masks.{word, words}
 use Rattle.secrecy.proofs.Blocks.{Pair, shares, known}
@@ -73,7 +73,7 @@ module _ (n : ℕ) (modulus : is_modulus n ≡ true) where
   hidden_formed z w b = rw (lt-ltb w n b, lt-ltb (residue (z -ℤ pos w) n) n (residue_below (z -ℤ pos w) n positive)) refl
 
   -- a well-formed pair, and the second sample under its words, are the same to the house
-  pub words_known : (h : Bool) (z : Complex) (x : Pair) → sound (shares n) x ≡ true → known n h x ≡ known n h (hidden_pair n z (words n h z x))
+  pub words_known : (h : Bool) (z : Complex) (x : Pair) → well_formed (shares n) x ≡ true → known n h x ≡ known n h (hidden_pair n z (words n h z x))
   words_known h z x s =
       let p = and_first ((shares n).wf x.0) ((shares n).wf x.1) s in
       let q = and_second ((shares n).wf x.0) ((shares n).wf x.1) s in
@@ -81,7 +81,7 @@ module _ (n : ℕ) (modulus : is_modulus n ≡ true) where
       let f = sym (word_half z.im x.1 q h) in
       let a = hidden_formed z.re (word n h z.re x.0) (word_below z.re x.0 p h) in
       let b = hidden_formed z.im (word n h z.im x.1) (word_below z.im x.1 q h) in
-      let g : sound (shares n) x ≡ sound (shares n) (hidden_pair n z (words n h z x)) = s ∙ sym (ap₂ ◌&&◌ a b) in
+      let g : well_formed (shares n) x ≡ well_formed (shares n) (hidden_pair n z (words n h z x)) = s ∙ sym (ap₂ ◌&&◌ a b) in
       λ j. ((e j, f j), g j)
 
   -- within the limit and half of the modulus, a sample is sealed with words below n

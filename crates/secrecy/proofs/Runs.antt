@@ -7,7 +7,7 @@ use Rattle.refusal.specs.declared.kinds.Refusal.{Refusal}
 use Rattle.refusal.specs.declared.kinds.Refusal.TheVariants.{Moment, Place, Strange, Malformed}
 use Rattle.lines.specs.Laws.{Within}
 use Rattle.split.specs.declared.halves.Halves.{Halves}
-use Rattle.stages.specs.Block.{well_formed as sound}
+use Rattle.scheme.specs.Hidden.{well_formed}
 use Rattle.states.specs.declared.Kept.{Kept}
 use Rattle.states.specs.declared.State.{State}
 use Rattle.states.specs.declared.State.TheVariants.{Idle, Filling, Running, Finished}
@@ -27,7 +27,7 @@ use Rattle.secrecy.proofs.Masks.{split_sound, word_below, words_known, sealed_as
 
 -- what an accepted load tells: its pair is well formed, and a plan that fits the modulus is in force
 pub record Taken (n : ℕ) (p : Option Numbers) (x : Pair) : Type 0 where
-  pub formed : sound (shares n) x ≡ true
+  pub formed : well_formed (shares n) x ≡ true
   pub kept : Kept
   pub force : InForce n p kept
 
@@ -44,7 +44,7 @@ taken : (n : ℕ) (p : Option Numbers) (st : State) (bl : Pairs (Halves ℕ)) (i
 taken n p Idle bl i x r st' bl' t s = absurd (accepted_never Moment Idle bl r st' bl' s)
 taken n p (Filling kept count) bl i x r st' bl' t s =
     record {
-      formed = taken_formed n i (Filling kept count) bl (Load i x) r st' bl' (leb i count && ltb i kept.plan.size) (eqb n kept.modulus) (sound (shares n) x) s;
+      formed = taken_formed n i (Filling kept count) bl (Load i x) r st' bl' (leb i count && ltb i kept.plan.size) (eqb n kept.modulus) (well_formed (shares n) x) s;
       kept = kept;
       force = t;
     }

@@ -14,14 +14,13 @@ use Rattle.lines.specs.Places.{place}
 use Rattle.lines.proofs.Places.{place_as, place_below}
 use Rattle.lines.proofs.Sizes.{size2, size4}
 use Rattle.scheme.specs.Meaning.{Sound}
-use Rattle.scheme.specs.Hidden.{StandsPair, WellFormed, read_pair}
+use Rattle.scheme.specs.Hidden.{StandsPair, WellFormed, read_pair, well_formed}
 use Rattle.scheme.proofs.Standing.{pair_itself}
 use Rattle.split.specs.declared.halves.Halves.{Halves}
-use Rattle.stages.specs.Block.{well_formed as sound}
 use Rattle.stages.specs.Stage.{entries}
 use Rattle.states.specs.Step.{Pairs, StageDone, stages_for, first_malformed_place}
 use Rattle.secrecy.specs.Secrecy.{half}
-use Rattle.secrecy.proofs.Blocks.{Pair, Known, shares, known, Alike, alike_length, alike_at, alike_of, sound_below, sound_entry}
+use Rattle.secrecy.proofs.Blocks.{Pair, Known, shares, known, Alike, alike_length, alike_at, alike_of, formed_below, formed_entry}
 
 -- ---- every place of a stage is an entry of one butterfly
 
@@ -84,8 +83,8 @@ and_second true y e = e
 and_second false true e = refl
 and_second false false e = e
 
-pub sound_formed : (n : ℕ) (x : Pair) → sound (shares n) x ≡ true → WellFormed (shares n) x
-sound_formed n x e =
+pub formed_both_parts : (n : ℕ) (x : Pair) → well_formed (shares n) x ≡ true → WellFormed (shares n) x
+formed_both_parts n x e =
     record { re = and_first ((shares n).wf x.0) ((shares n).wf x.1) e; im = and_second ((shares n).wf x.0) ((shares n).wf x.1) e }
 
 -- in the view of one half that half is read
@@ -114,7 +113,7 @@ module _ (n : ℕ) (lawful : Sound (shares n)) (h : Bool) (p : Plan) (t : ℕ) (
       (stage.staged (h ∷ []) d (group r t i) (offset r t i) g o (reading i d)
       (λ j l. let c : place r t (group r t i) (offset r t i) j < p.size = rw e (place_below r t u (group r t i) (offset r t i) j g o l) in
       pair_itself (shares n) lawful (h ∷ []) (entries d before (place r t (group r t i) (offset r t i) j))
-      (sound_formed n (entries d before (place r t (group r t i) (offset r t i) j)) (sound_entry (shares n) before (place r t (group r t i) (offset r t i) j) (sound_below (shares n) before p.size clean (place r t (group r t i) (offset r t i) j) c) d)))
+      (formed_both_parts n (entries d before (place r t (group r t i) (offset r t i) j)) (formed_entry (shares n) before (place r t (group r t i) (offset r t i) j) (formed_below (shares n) before p.size clean (place r t (group r t i) (offset r t i) j) c) d)))
       (entry r t i) (entry_below r t i one))
 
 module _ (n : ℕ) (lawful : Sound (shares n)) (h : Bool) where
@@ -124,11 +123,11 @@ module _ (n : ℕ) (lawful : Sound (shares n)) (h : Bool) where
       (reads_half n h x.0 ∙ ap (λ (k : Known). k.0.0) e ∙ sym (reads_half n h y.0))
       (reads_half n h x.1 ∙ ap (λ (k : Known). k.0.1) e ∙ sym (reads_half n h y.1))
 
-  known_same : (x y : Pair) → half h x.0 ≡ half h y.0 → half h x.1 ≡ half h y.1 → sound (shares n) x ≡ sound (shares n) y → known n h x ≡ known n h y
+  known_same : (x y : Pair) → half h x.0 ≡ half h y.0 → half h x.1 ≡ half h y.1 → well_formed (shares n) x ≡ well_formed (shares n) y → known n h x ≡ known n h y
   known_same x y e f g = λ j. ((e j, f j), g j)
 
   -- pairs that stand for the same in the view of the half are the same to the house
-  stands_known : (z : Complex) (x y : Pair) → StandsPair (shares n) (h ∷ []) z x → StandsPair (shares n) (h ∷ []) z y → sound (shares n) x ≡ sound (shares n) y → known n h x ≡ known n h y
+  stands_known : (z : Complex) (x y : Pair) → StandsPair (shares n) (h ∷ []) z x → StandsPair (shares n) (h ∷ []) z y → well_formed (shares n) x ≡ well_formed (shares n) y → known n h x ≡ known n h y
   stands_known z x y a b e =
       known_same x y
       (sym (reads_half n h x.0) ∙ a.re.reads ∙ sym b.re.reads ∙ reads_half n h y.0)
@@ -149,7 +148,7 @@ module _ (n : ℕ) (lawful : Sound (shares n)) (h : Bool) where
           subst (λ (x : ℕ → Complex). StandsPair (shares n) (h ∷ []) (mix p.twiddle_scale r t (offset r t i) x (entry r t i)) (get_or ys' i d)) (sym (fun_ext same)) (stage_stands n lawful h p t due ys ys' s' c' i l d) in
           stands_known (mix p.twiddle_scale r t (offset r t i) (reading n lawful h p t due xs xs' s c i d) (entry r t i)) (get_or xs' i d) (get_or ys' i d)
           (stage_stands n lawful h p t due xs xs' s c i l d) there
-          (sound_entry (shares n) xs' i (s.formed i l) d ∙ sym (sound_entry (shares n) ys' i (s'.formed i l) d))
+          (formed_entry (shares n) xs' i (s.formed i l) d ∙ sym (formed_entry (shares n) ys' i (s'.formed i l) d))
 
       beyond : (i : ℕ) → p.size ≤ i → (d : Pair) → known n h (get_or xs' i d) ≡ known n h (get_or ys' i d)
       beyond i l d = ap (known n h) (s.past d i l) ∙ alike_at n h xs ys e i d ∙ ap (known n h) (sym (s'.past d i l))

@@ -21,7 +21,7 @@ use Rattle.states.specs.Step.{Pairs, Step, StepBy, Accepted, Becomes, Planned, A
 use Rattle.states.specs.History.{Numbers, plan_after}
 use Rattle.secrecy.specs.Secrecy.{bringing, refusal_of}
 use Rattle.secrecy.proofs.Plans.{same_plan}
-use Rattle.secrecy.proofs.Blocks.{Pair, Known, shares, known, Alike, alike_length, alike_sound, alike_malformed, alike_set}
+use Rattle.secrecy.proofs.Blocks.{Pair, Known, shares, known, Alike, alike_length, alike_formed, alike_malformed, alike_set}
 use Rattle.secrecy.proofs.Stages.{stage_alike}
 
 -- ---- the plan kept in a state is the plan in force by calls and answers
@@ -127,8 +127,8 @@ AlikeLoad n h Restart y = Unit {0}
 module _ (n : ℕ) (h : Bool) (xs ys : Pairs (Halves ℕ)) (alike : Alike n h xs ys) where
   line_same : (k : Method) (size i : ℕ) → line_malformed (shares n) k xs size i ≡ line_malformed (shares n) k ys size i
   line_same Direct size i = ap malformed (alike_malformed n h xs ys alike size)
-  line_same Radix2 size i = ap (λ (b : Bool). unless b (Malformed i) None) (alike_sound n h xs ys alike i)
-  line_same Radix4 size i = ap (λ (b : Bool). unless b (Malformed i) None) (alike_sound n h xs ys alike i)
+  line_same Radix2 size i = ap (λ (b : Bool). unless b (Malformed i) None) (alike_formed n h xs ys alike i)
+  line_same Radix4 size i = ap (λ (b : Bool). unless b (Malformed i) None) (alike_formed n h xs ys alike i)
 
   pub declined_same : (c : Call (Halves ℕ)) (y : Pair) (st : State) → AlikeLoad n h c y → declined (shares n) st xs c ≡ declined (shares n) st ys (bringing y c)
   declined_same (PlanCall k size q1 q2) y st e =
