@@ -4,12 +4,13 @@ ghost use Rattle.scheme.specs.Meaning.{Meaning};
 ghost use Rattle.states.specs.Step.{Step, fits};
 ghost use Rattle.states.specs.declared.State.TheVariants.{Idle};
 ghost use Rattle.states.specs.declared.Call.TheVariants.{Plan as PlanCall, Load, Begin, Advance, Line as LineCall, Restart};
+ghost use Rattle.window.specs.Answers.{answer_with_line, answer_without_line};
 
 use crate::{parts, step};
 use plan::Method;
 use refusal::Refusal;
 use scheme::Scheme;
-use states::{Answer, Call, State};
+use states::{Answer, Call, Line, State};
 
 // A window over a lent block of hidden pairs, real part first. The block comes back to its owner with what it then holds.
 #[derive(Drop)]
@@ -56,8 +57,8 @@ impl<'a, S: Scheme> Window<'a, S> {
         size: u64,
         sample_scale: u64,
         twiddle_scale: u64,
-    ) -> Answer
-        ensures step { Step (S.meaning s.old) self.old.state self.old.block.now (PlanCall method size sample_scale twiddle_scale) result self.new.state self.new.block.now }
+    ) -> Result<(), Refusal>
+        ensures step { Step (S.meaning s.old) self.old.state self.old.block.now (PlanCall method size sample_scale twiddle_scale) (answer_without_line result) self.new.state self.new.block.now }
         ensures frame { S.meaning s.new ≡ S.meaning s.old }
         ensures lender { self.new.block.ghost_name ≡ self.old.block.ghost_name }
     {
@@ -70,29 +71,30 @@ impl<'a, S: Scheme> Window<'a, S> {
                 twiddle_scale,
             },
         )
+        .map(|_| ())
     }
 
     // Loads sample n, the next one or one loaded before, at its place. Refuses with Moment where the window is not filling, else with
     // Place, with Strange under another modulus, with Malformed at n.
-    pub fn load(&mut self, s: &mut S, n: usize, pair: (S::Number, S::Number)) -> Answer
-        ensures step { Step (S.meaning s.old) self.old.state self.old.block.now (Load n pair) result self.new.state self.new.block.now }
+    pub fn load(&mut self, s: &mut S, n: usize, pair: (S::Number, S::Number)) -> Result<(), Refusal>
+        ensures step { Step (S.meaning s.old) self.old.state self.old.block.now (Load n pair) (answer_without_line result) self.new.state self.new.block.now }
         ensures frame { S.meaning s.new ≡ S.meaning s.old }
         ensures lender { self.new.block.ghost_name ≡ self.old.block.ghost_name }
     {
-        self.call(s, Call::Load { n, pair })
+        self.call(s, Call::Load { n, pair }).map(|_| ())
     }
 
     // Begins the stages, or finishes where none is due. Refuses with Moment where the window is not filling, else with Short where
     // samples are missing. What it does hangs on no scheme.
-    pub fn begin(&mut self) -> Answer
-        ensures step { (m : Meaning S.Number) → Step m self.old.state self.old.block.now Begin result self.new.state self.new.block.now }
+    pub fn begin(&mut self) -> Result<(), Refusal>
+        ensures step { (m : Meaning S.Number) → Step m self.old.state self.old.block.now Begin (answer_without_line result) self.new.state self.new.block.now }
         ensures lender { self.new.block.ghost_name ≡ self.old.block.ghost_name }
     {
         let Window { state, .. } = self;
         match *state {
             State::Filling { kept, count } => {
                 *state = parts::begun(kept, count)?;
-                Ok(None)
+                Ok(())
             }
             _ => Err(Refusal::Moment),
         }
@@ -100,27 +102,27 @@ impl<'a, S: Scheme> Window<'a, S> {
 
     // One stage; after the last the window is finished. Refuses with Moment where the window is not running, else with Strange under
     // another modulus, else with Malformed at the first malformed pair among those of the plan.
-    pub fn advance(&mut self, s: &mut S) -> Answer
-        ensures step { Step (S.meaning s.old) self.old.state self.old.block.now Advance result self.new.state self.new.block.now }
+    pub fn advance(&mut self, s: &mut S) -> Result<(), Refusal>
+        ensures step { Step (S.meaning s.old) self.old.state self.old.block.now Advance (answer_without_line result) self.new.state self.new.block.now }
         ensures frame { S.meaning s.new ≡ S.meaning s.old }
         ensures lender { self.new.block.ghost_name ≡ self.old.block.ghost_name }
     {
-        self.call(s, Call::Advance)
+        self.call(s, Call::Advance).map(|_| ())
     }
 
     // Line k, opened. Refuses with Moment where the window is not finished, else with Place where k is not below the size, with Strange
     // under another modulus, with Malformed where a pair that is read is malformed.
-    pub fn line(&mut self, s: &mut S, k: usize) -> Answer
-        ensures step { Step (S.meaning s.old) self.old.state self.old.block.now (LineCall k) result self.new.state self.new.block.now }
+    pub fn line(&mut self, s: &mut S, k: usize) -> Result<Line, Refusal>
+        ensures step { Step (S.meaning s.old) self.old.state self.old.block.now (LineCall k) (answer_with_line result) self.new.state self.new.block.now }
         ensures frame { S.meaning s.new ≡ S.meaning s.old }
         ensures lender { self.new.block.ghost_name ≡ self.old.block.ghost_name }
     {
-        self.call(s, Call::Line { k })
+        self.call(s, Call::Line { k })?.ok_or(Refusal::Moment)
     }
 
     // Back to no samples under the plan in force. Refuses with Moment where there is no plan. What it does hangs on no scheme.
-    pub fn restart(&mut self) -> Answer
-        ensures step { (m : Meaning S.Number) → Step m self.old.state self.old.block.now Restart result self.new.state self.new.block.now }
+    pub fn restart(&mut self) -> Result<(), Refusal>
+        ensures step { (m : Meaning S.Number) → Step m self.old.state self.old.block.now Restart (answer_without_line result) self.new.state self.new.block.now }
         ensures lender { self.new.block.ghost_name ≡ self.old.block.ghost_name }
     {
         let Window { state, .. } = self;
@@ -129,7 +131,7 @@ impl<'a, S: Scheme> Window<'a, S> {
             State::Filling { kept, .. } | State::Running { kept, .. } | State::Finished { kept } =>
                 {
                     *state = State::Filling { kept, count: 0 };
-                    Ok(None)
+                    Ok(())
                 }
         }
     }
