@@ -15,15 +15,10 @@ use Rattle.stages.specs.Direct.{DirectAnswer, DirectRefused}
 use Rattle.stages.proofs.Blocks.{sound_there, read_there, both_true}
 use Rattle.states.specs.declared.Kept.{Kept}
 use Rattle.states.specs.Step.{Pairs, first_malformed_place, malformed, unless, stages_for, line_malformed, line_read}
-use Rattle.window.specs.Parts.{Checking, Putting, Loading, Advancing, Reading}
+use Rattle.window.specs.Parts.{Advancing, Reading}
 use Rattle.window.proofs.Searching.{found_first}
 
 module _ {N : Type 0} (m : Meaning N) where
-  -- a load that is not declined puts its pair
-  pub loading : (kept : Kept) (count n : ℕ) (x : N × N) (before after : Pairs N) (r : Result (Unit {0}) Refusal) → Checking m kept count n x (Ok tt) → Putting kept.plan n x before after r → Loading m kept count n x before after r
-  loading kept count n x before after (Ok u) h p = (h.0, p)
-  loading kept count n x before after (Err e) h p = absurd (omega (arith, h.1))
-
   -- a declined stage, on a long enough block and a stage that is due, is a malformed pair
   stage_declined : (kept : Kept) (t : ℕ) (bl : Pairs N) (x : Refusal) → kept.plan.size ≤ length bl → t < stages_for kept.plan → StageRefused m kept.plan t bl x → malformed (first_malformed_place m bl kept.plan.size) ≡ Some x
   stage_declined kept t bl (Malformed i) l d h = ap malformed (found_first m bl kept.plan.size (Some i) h.2)

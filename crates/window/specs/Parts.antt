@@ -1,7 +1,6 @@
 -- What the parts of a call answer: declined as the step says, with the block as it was, or done.
-use Rattle.std.specs.Prelude.{◌≡◌, ℕ, ◌<◌, ◌≤◌, List, [], Some, None, Ok, Err, Result, slice_set}
+use Rattle.std.specs.Prelude.{◌≡◌, ℕ, ◌<◌, [], Some, None, Ok, Err, Result, slice_set}
 use Rattle.refusal.specs.declared.kinds.Refusal.{Refusal}
-use Rattle.refusal.specs.declared.kinds.Refusal.TheVariants.{Short}
 use Rattle.plan.specs.declared.method.Method.{Method}
 use Rattle.plan.specs.declared.plan.Plan.{Plan}
 use Rattle.plan.specs.Making.{Has}
@@ -9,31 +8,20 @@ use Rattle.lines.specs.Places.{place_of}
 use Rattle.scheme.specs.Meaning.{Meaning}
 use Rattle.scheme.specs.Hidden.{StandsPair}
 use Rattle.states.specs.declared.Kept.{Kept}
-use Rattle.states.specs.declared.State.{State}
 use Rattle.states.specs.declared.State.TheVariants.{Filling, Running, Finished}
 use Rattle.states.specs.declared.Call.TheVariants.{Load, Advance, Line as LineCall}
 use Rattle.states.specs.declared.Line.{Line}
-use Rattle.states.specs.Step.{Pairs, plan_declined, declined, line_malformed, line_read, progress, stated, StageDone}
+use Rattle.states.specs.Step.{Pairs, plan_declined, declined, line_malformed, line_read, stated, StageDone}
 
 -- the plan of these numbers, with the modulus, where it is not declined
 abbrev pub Planning : {N : Type 0} → Meaning N → Pairs N → Method → ℕ → ℕ → ℕ → Result Kept Refusal → Type 0
 Planning m bl k size q1 q2 (Ok kept) = (plan_declined m bl k size q1 q2 ≡ None) × Has kept.plan k size q1 q2 × (kept.modulus ≡ m.modulus)
 Planning m bl k size q1 q2 (Err x) = plan_declined m bl k size q1 q2 ≡ Some x
 
--- the state after no stage, where every sample is loaded
-abbrev pub Beginning : Kept → ℕ → Result State Refusal → Type 0
-Beginning kept count (Ok st) = (kept.plan.size ≤ count) × (st ≡ progress kept 0)
-Beginning kept count (Err x) = (count < kept.plan.size) × (x ≡ Short)
-
 -- loading the pair as sample n, which there is, is not declined, whatever the block holds
 abbrev pub Checking : {N : Type 0} → Meaning N → Kept → ℕ → ℕ → N × N → Result (Unit {0}) Refusal → Type 0
 Checking m kept count n x (Ok _) = (declined m (Filling kept count) [] (Load n x) ≡ None) × (n < kept.plan.size)
 Checking m kept count n x (Err e) = declined m (Filling kept count) [] (Load n x) ≡ Some e
-
--- the pair at the place of sample n, where there is such a sample
-abbrev pub Putting : {A : Type 0} → Plan → ℕ → A → List A → List A → Result (Unit {0}) Refusal → Type 0
-Putting p n x before after (Ok _) = after ≡ slice_set before (place_of p.method p.size n) x
-Putting p n x before after (Err e) = p.size ≤ n
 
 -- the pair at the place of sample n, where it is not declined
 abbrev pub Loading : {N : Type 0} → Meaning N → Kept → ℕ → ℕ → N × N → Pairs N → Pairs N → Result (Unit {0}) Refusal → Type 0

@@ -2,7 +2,6 @@
 #![tactic(auto)]
 
 mod parts;
-mod step;
 mod window;
 
 pub use window::Window;

@@ -1,40 +1,13 @@
 // The parts of the calls: what each does to the block, and why it is declined.
-ghost use Rattle.std.specs.Prelude.{◌≡◌, ℕ, ◌+◌, ◌<◌, ◌≤◌, true, length, slice_index_or, slice_set};
-ghost use Rattle.scheme.specs.Hidden.{well_formed};
+ghost use Rattle.std.specs.Prelude.{◌≡◌, ◌<◌, ◌≤◌, length};
 ghost use Rattle.states.specs.Step.{progress as progress_of, stages_for};
-ghost use Rattle.window.specs.Parts.{Beginning, Planning, Checking, Putting, Loading, Advancing, Reading, Opening};
+ghost use Rattle.window.specs.Parts.{Planning, Checking, Loading, Advancing, Reading, Opening};
 
 use plan::{Method, Plan};
 use refusal::Refusal;
 use scheme::{Scheme, pairs};
 use stages::{direct_line, place_of, stage};
 use states::{Kept, Line, State};
-
-// What stands at place i.
-fn at<T: Copy>(block: &[T], i: usize) -> T
-    requires { i < length block.now }
-    ensures { (d : T) → result ≡ slice_index_or block.now i d }
-{
-    block[i]
-}
-
-// Writes x at place i.
-fn put<T: Copy>(block: &mut [T], i: usize, x: T)
-    requires { i < length block.old }
-    ensures { block.new ≡ slice_set block.old i x }
-{
-    block[i] = x;
-}
-
-// Whether both components of a pair are well formed.
-fn is_well_formed<S: Scheme>(s: &mut S, pair: (S::Number, S::Number)) -> bool
-    ensures value { result ≡ well_formed (S.meaning s.old) pair }
-    ensures frame { S.meaning s.new ≡ S.meaning s.old }
-{
-    let re = s.test(pair.0);
-    let im = s.test(pair.1);
-    re && im
-}
 
 // The number of stages of a plan.
 fn stages_of(plan: &Plan) -> usize
@@ -48,7 +21,7 @@ fn stages_of(plan: &Plan) -> usize
 }
 
 // The state after so many stages.
-fn progress(kept: Kept, done: usize) -> State
+pub(crate) fn progress(kept: Kept, done: usize) -> State
     ensures { result ≡ progress_of kept done }
 {
     if done == stages_of(&kept.plan) {
@@ -56,24 +29,6 @@ fn progress(kept: Kept, done: usize) -> State
     } else {
         State::Running { kept, done }
     }
-}
-
-// The state after one more stage than `done`.
-pub(crate) fn advanced(kept: Kept, done: usize) -> State
-    requires { done < 8 }
-    ensures { result ≡ progress_of kept (done + 1) }
-{
-    progress(kept, done + 1)
-}
-
-// The state after a beginning with `count` samples loaded, or Short.
-pub(crate) fn begun(kept: Kept, count: usize) -> Result<State, Refusal>
-    ensures { Beginning kept count result }
-{
-    if count < kept.plan.size() {
-        return Err(Refusal::Short);
-    }
-    Ok(progress(kept, 0))
 }
 
 // The plan of these numbers and the scheme's modulus, or why they are declined.
@@ -114,19 +69,9 @@ fn check_load<S: Scheme>(
     if s.modulus() != kept.modulus {
         return Err(Refusal::Strange);
     }
-    if !is_well_formed(s, pair) {
+    if !pairs::test(s, pair) {
         return Err(Refusal::Malformed(n));
     }
-    Ok(())
-}
-
-// Puts a pair to the place of sample n; Place where there is no such sample.
-fn put_sample<T: Copy>(plan: &Plan, n: usize, pair: T, block: &mut [T]) -> Result<(), Refusal>
-    requires { plan.now.size ≤ length block.old }
-    ensures { Putting plan.now n pair block.old block.new result }
-{
-    let place = place_of(plan, n)?;
-    put(block, place, pair);
     Ok(())
 }
 
@@ -144,7 +89,9 @@ pub(crate) fn load_at<S: Scheme>(
     ensures frame { S.meaning s.new ≡ S.meaning s.old }
 {
     check_load(s, kept, count, n, pair)?;
-    put_sample(&kept.plan, n, pair, block)
+    let place = place_of(&kept.plan, n)?;
+    block[place] = pair;
+    Ok(())
 }
 
 // Stage t + 1.
@@ -179,8 +126,8 @@ fn read_line<S: Scheme>(
     match plan.method() {
         Method::Direct => direct_line(s, plan, k, block),
         Method::Radix2 | Method::Radix4 => {
-            let pair = at(block, k);
-            if is_well_formed(s, pair) {
+            let pair = block[k];
+            if pairs::test(s, pair) {
                 Ok(pair)
             } else {
                 Err(Refusal::Malformed(k))

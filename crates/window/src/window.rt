@@ -6,13 +6,14 @@ ghost use Rattle.states.specs.declared.State.TheVariants.{Idle};
 ghost use Rattle.states.specs.declared.Call.TheVariants.{Plan as PlanCall, Load, Begin, Advance, Line as LineCall, Restart};
 ghost use Rattle.window.specs.Answers.{answer_with_line, answer_without_line};
 
-use crate::{parts, step};
+use crate::parts;
 use plan::Method;
 use refusal::Refusal;
 use scheme::Scheme;
 use states::{Answer, Call, Line, State};
 
 // A window over a lent block of hidden pairs, real part first. The block comes back to its owner with what it then holds.
+// The clause `lender` below, that the block is the same loan after a call, is kept: it is of two moments, and no type carries it.
 #[derive(Drop)]
 pub struct Window<'a, S: Scheme> {
     block: &'a mut [(S::Number, S::Number)],
@@ -38,14 +39,48 @@ impl<'a, S: Scheme> Window<'a, S> {
         self.state
     }
 
-    // Any call: what it does depends on the window's state and the call together. A declined call changes nothing.
+    // Any call: what it does depends on the window's state and the call together, and what is not listed is declined with Moment.
+    // A declined call changes nothing. The state is copied for the match, and the block is lent once more: the borrow checker covers
+    // neither a match on the state behind its reference nor a shared loan through the window's own.
     pub fn call(&mut self, s: &mut S, call: Call<S::Number>) -> Answer
         ensures step { Step (S.meaning s.old) self.old.state self.old.block.now call result self.new.state self.new.block.now }
         ensures frame { S.meaning s.new ≡ S.meaning s.old }
         ensures lender { self.new.block.ghost_name ≡ self.old.block.ghost_name }
     {
         let Window { block, state } = self;
-        step::step(s, block, state, call)
+        let block = &mut **block;
+        match (*state, call) {
+            (
+                _,
+                Call::Plan {
+                    method,
+                    size,
+                    sample_scale,
+                    twiddle_scale,
+                },
+            ) => {
+                let kept = parts::plan_for(s, block, method, size, sample_scale, twiddle_scale)?;
+                *state = State::Filling { kept, count: 0 };
+                Ok(None)
+            }
+            (State::Filling { kept, count }, Call::Load { n, pair }) => {
+                parts::load_at(s, &kept, count, n, pair, block)?;
+                let count = count.max(n + 1);
+                *state = State::Filling { kept, count };
+                Ok(None)
+            }
+            (_, Call::Begin) => self.begin().map(|_| None),
+            (State::Running { kept, done }, Call::Advance) => {
+                parts::advance_at(s, &kept, done, block)?;
+                *state = parts::progress(kept, done + 1);
+                Ok(None)
+            }
+            (State::Finished { kept }, Call::Line { k }) => {
+                parts::line_at(s, &kept, k, block).map(Some)
+            }
+            (_, Call::Restart) => self.restart().map(|_| None),
+            _ => Err(Refusal::Moment),
+        }
     }
 
     // Puts a plan of these numbers in force, in every state: no sample is loaded then. Refuses with Size, SampleScale or TwiddleScale
@@ -91,13 +126,14 @@ impl<'a, S: Scheme> Window<'a, S> {
         ensures lender { self.new.block.ghost_name ≡ self.old.block.ghost_name }
     {
         let Window { state, .. } = self;
-        match *state {
-            State::Filling { kept, count } => {
-                *state = parts::begun(kept, count)?;
-                Ok(())
-            }
-            _ => Err(Refusal::Moment),
+        let State::Filling { kept, count } = *state else {
+            return Err(Refusal::Moment);
+        };
+        if count < kept.plan.size() {
+            return Err(Refusal::Short);
         }
+        *state = parts::progress(kept, 0);
+        Ok(())
     }
 
     // One stage; after the last the window is finished. Refuses with Moment where the window is not running, else with Strange under

@@ -13,5 +13,5 @@ returns g c =
     let h : n < kept.plan.size = omega (arith, c.size.ensures) in
     let a : leb n c.args.count ≡ true = le-leb n c.args.count l in
     let b : ltb n kept.plan.size ≡ true = lt-ltb n kept.plan.size h in
-    let t : well_formed m c.args.pair ≡ true = sym (rw f at c.if-not-is_well_formed.ensures.value) in
-    record { value = (rw (a, b, e, t) refl, h); frame = c.is_well_formed.ensures.frame ∙ f }
+    let t : well_formed m c.args.pair ≡ true = sym (rw f at c.if-not-test.ensures.value) in
+    record { value = (rw (a, b, e, t) refl, h); frame = c.test.ensures.frame ∙ f }

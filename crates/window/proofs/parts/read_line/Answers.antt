@@ -11,30 +11,30 @@ returns-in-Direct g c =
       frame = c.direct_line.ensures.frame;
     }
 
-pub returns-then-is_well_formed : goal.returns-then-is_well_formed
-returns-then-is_well_formed g c =
+pub returns-then-test : goal.returns-then-test
+returns-then-test g c =
     let m = g.S.Scheme.meaning c.args.s.now in
     let p = c.args.plan.now in
-    let x = c.at-pair.result in
+    let x = c.index-block-k.result in
     let way : (p.method ≡ Radix2) ⊎ (p.method ≡ Radix4) =
     ⊎_elim (λ e. inl (sym c.method.ensures ∙ e)) (λ e. inr (sym c.method.ensures ∙ e)) c.in-Radix2.is
     in
     let l : c.args.k < length c.args.block.now = omega arith in
     record {
-      value = reading_there m (g.met.S.Scheme.sound c.args.s.now) p c.args.k c.args.block.now p.method x way l (c.at-pair.ensures x) (sym c.is_well_formed.ensures.value ∙ c.if-is_well_formed.true);
-      frame = c.is_well_formed.ensures.frame;
+      value = reading_there m (g.met.S.Scheme.sound c.args.s.now) p c.args.k c.args.block.now p.method x way l c.index-block-k.is (sym c.test.ensures.value ∙ c.if-test.true);
+      frame = c.test.ensures.frame;
     }
 
-pub returns-else-is_well_formed : goal.returns-else-is_well_formed
-returns-else-is_well_formed g c =
+pub returns-else-test : goal.returns-else-test
+returns-else-test g c =
     let m = g.S.Scheme.meaning c.args.s.now in
     let p = c.args.plan.now in
-    let x = c.at-pair.result in
+    let x = c.index-block-k.result in
     let way : (p.method ≡ Radix2) ⊎ (p.method ≡ Radix4) =
     ⊎_elim (λ e. inl (sym c.method.ensures ∙ e)) (λ e. inr (sym c.method.ensures ∙ e)) c.in-Radix2.is
     in
     let l : c.args.k < length c.args.block.now = omega arith in
     record {
-      value = reading_malformed m p c.args.k c.args.block.now p.method x way l (c.at-pair.ensures x) (sym c.is_well_formed.ensures.value ∙ c.if-is_well_formed.false);
-      frame = c.is_well_formed.ensures.frame;
+      value = reading_malformed m p c.args.k c.args.block.now p.method x way l c.index-block-k.is (sym c.test.ensures.value ∙ c.if-test.false);
+      frame = c.test.ensures.frame;
     }
