@@ -65,10 +65,9 @@ pub fn masks_for(
     ensures value { IfOk result (λ v. v.items ≡ words_of n.n (side house) pairs.now samples.now) }
     ensures law { IfOk result (λ v. Serve n.n (side house) pairs.now samples.now v.items) }
 {
-    let count = pairs.len().min(samples.len());
-    let mut masks = Vec::new(heap);
-    for i in 0..count {
-        masks.push(mask_words(n, house, samples[i], pairs[i]))?;
-    }
-    Ok(masks)
+    pairs
+        .iter()
+        .zip(samples)
+        .map(|(pair, sample)| mask_words(n, house, *sample, *pair))
+        .collect(heap)
 }
