@@ -23,9 +23,10 @@ use Rattle.states.specs.declared.Call.TheVariants.{Line as LineCall}
 use Rattle.states.specs.declared.Line.{Line}
 use Rattle.states.specs.Step.{Pairs, StepBy, declined, line_read, stated}
 use Rattle.states.specs.History.{RightFor, RightBy, plan_in, samples_in, Event, OpenedLinesAreRight}
+use Rattle.states.proofs.Declining.{unless_none}
 use Rattle.right.proofs.Agreeing.{Agree, agree_meant, agree_direct, read_stands, some}
 use Rattle.right.proofs.Tied.{numbers_of, Tied, end_of, held_last}
-use Rattle.right.proofs.Steps.{unless_none, reached_tied}
+use Rattle.right.proofs.Steps.{reached_tied}
 
 module _ {N : Type 0} (m : Meaning N) (ok : Sound m) where
   -- the number that a line is read from agrees with the line
@@ -54,7 +55,7 @@ module _ {N : Type 0} (m : Meaning N) (ok : Sound m) where
   -- a line opened in a tied state
   opened_by : (o : Option Refusal) (past : List (Event N)) (st : State) (bl : Pairs N) (k : ℕ) (l : Line) (st' : State) (bl' : Pairs N) → declined m st bl (LineCall k) ≡ o → StepBy o m st bl (LineCall k) (Ok (Some l)) st' bl' → Tied m (plan_in past) (samples_in m past) st bl → RightBy m past k l
   opened_by (Some x) past st bl k l st' bl' e h t =
-      let e : ◌≡◌ {A = Result (Option Line) Refusal} (Ok (Some l)) (Err x) = h.answer in let z : ◌≡◌ {A = ℕ} 0 1 = cc in absurd (omega arith)
+      let e : ◌≡◌ {A = Result (Option Line) Refusal} (Ok (Some l)) (Err x) = h.answer in cc
   opened_by None past Idle bl k l st' bl' e h t = absurd h
   opened_by None past (Filling kept count) bl k l st' bl' e h t = absurd h
   opened_by None past (Running kept u) bl k l st' bl' e h t = absurd h

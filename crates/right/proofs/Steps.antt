@@ -11,6 +11,7 @@ use Rattle.plan.specs.Making.{Has, refused}
 use Rattle.lines.specs.Places.{place_of}
 use Rattle.scheme.specs.Meaning.{Meaning, Sound}
 use Rattle.scheme.specs.Hidden.{WellFormed, well_formed}
+use Rattle.stages.proofs.Blocks.{both_true}
 use Rattle.states.specs.declared.Kept.{Kept}
 use Rattle.states.specs.declared.State.{State}
 use Rattle.states.specs.declared.State.TheVariants.{Idle, Filling, Running, Finished}
@@ -19,22 +20,11 @@ use Rattle.states.specs.declared.Call.TheVariants.{Plan as PlanCall, Load, Begin
 use Rattle.states.specs.declared.Line.{Line}
 use Rattle.states.specs.Step.{Pairs, Step, StepBy, Accepted, Declined, Becomes, Planned, Advanced, declined, plan_declined, unless, first, progress}
 use Rattle.states.specs.History.{Event, Numbers, plan_after, samples_after, plan_in, samples_in, Reached}
+use Rattle.states.proofs.Declining.{unless_none, first_none}
 use Rattle.right.proofs.Tied.{numbers_of, Tied, force_long, progress_tied, filled_ran, ran_next, filled_none}
 use Rattle.right.proofs.Loading.{filled_more}
 
 -- ---- what it takes not to be declined
-
-pub unless_none : (b : Bool) (x : Refusal) (later : Option Refusal) → unless b x later ≡ None → (b ≡ true) × (later ≡ None)
-unless_none true x later h = (refl, h)
-unless_none false x later h = let z : ◌≡◌ {A = ℕ} 0 1 = cc in absurd (omega arith)
-
-first_none : (o later : Option Refusal) → first o later ≡ None → later ≡ None
-first_none None later h = h
-first_none (Some x) later h = let z : ◌≡◌ {A = ℕ} 0 1 = cc in absurd (omega arith)
-
-both_true : (a b : Bool) → a && b ≡ true → (a ≡ true) × (b ≡ true)
-both_true true b h = (refl, h)
-both_true false b h = let z : ◌≡◌ {A = ℕ} 0 1 = cc in absurd (omega arith)
 
 nothing : Complex
 nothing = real (pos 0)
@@ -60,7 +50,7 @@ module _ {N : Type 0} (m : Meaning N) (ok : Sound m) (force : Option Numbers) (g
   planned k size q1 q2 bl a st' bl' d h =
       let p : Plan = h.plan in
       let has : Has p k size q1 q2 = h.has in
-      let tests = first_none (refused k size q1 q2) _ d in
+      let (made, tests) = first_none (refused k size q1 q2) _ d in
       let (long, later) = unless_none (leb size (length bl)) Block _ tests in
       let (fits, last) = unless_none (leb (least_modulus_of (figures_of k size q1 q2)) m.modulus) Narrow None later in
       let same : ◌≡◌ {A = Numbers} (record { method = k; size = size; sample = q1; twiddle = q2 }) (numbers_of p) = cc in

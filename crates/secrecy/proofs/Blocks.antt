@@ -9,6 +9,7 @@ use Rattle.split.specs.Shares.{split}
 use Rattle.scheme.specs.Hidden.{well_formed}
 use Rattle.stages.specs.Block.{is_well_formed_at}
 use Rattle.states.specs.Step.{Pairs, first_malformed_place, malformed_from}
+use Rattle.states.proofs.Declining.{unless_none}
 use Rattle.secrecy.specs.Secrecy.{halves}
 
 abbrev pub Pair : Type 0
@@ -81,21 +82,13 @@ module _ (n : ℕ) (h : Bool) where
 
 -- where no place below k is malformed, each of them is well formed
 module _ (m : Meaning (Halves ℕ)) where
-  formed_both : (b : Bool) (i : ℕ) (later : Option ℕ) → cond b later (Some i) ≡ None → b ≡ true
-  formed_both true i later e = refl
-  formed_both false i later e = let z : ◌≡◌ {A = ℕ} 0 1 = cc in absurd (omega arith)
-
-  formed_later : (b : Bool) (i : ℕ) (later : Option ℕ) → cond b later (Some i) ≡ None → later ≡ None
-  formed_later true i later e = e
-  formed_later false i later e = let z : ◌≡◌ {A = ℕ} 0 1 = cc in absurd (omega arith)
-
   formed_from : (xs : Pairs (Halves ℕ)) (k i j : ℕ) → malformed_from m xs i k ≡ None → i ≤ j → j < i + k → is_well_formed_at m xs j ≡ true
   formed_from xs zero i j e a b = absurd (omega arith)
   formed_from xs (suc k) i j e a b =
       let later = malformed_from m xs (suc i) k in
       elim (native.Mathlib.Decide.dec_le (suc i) j) [
-        | yes g ↦ formed_from xs k (suc i) j (formed_later (is_well_formed_at m xs i) i later e) g (omega arith)
-        | no g ↦ let q : i ≡ j = omega arith in rw (← q) (formed_both (is_well_formed_at m xs i) i later e)
+        | yes g ↦ formed_from xs k (suc i) j (unless_none (is_well_formed_at m xs i) i later e).1 g (omega arith)
+        | no g ↦ let q : i ≡ j = omega arith in rw (← q) (unless_none (is_well_formed_at m xs i) i later e).0
       ]
 
   pub formed_below : (xs : Pairs (Halves ℕ)) (k : ℕ) → first_malformed_place m xs k ≡ None → (j : ℕ) → j < k → is_well_formed_at m xs j ≡ true

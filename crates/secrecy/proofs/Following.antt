@@ -17,7 +17,8 @@ use Rattle.states.specs.History.{Numbers, plan_after}
 use Rattle.secrecy.specs.Secrecy.{After, answers_of, Run, SecondSamples, hidden_pairs, bringing, replaced}
 use Rattle.secrecy.specs.Masks.{masks}
 use Rattle.secrecy.proofs.Blocks.{Pair, shares, Alike, alike_malformed}
-use Rattle.secrecy.proofs.Steps.{Tied, tied_step, AlikeLoad, declined_same, step_same, unless_later, malformed_none}
+use Rattle.states.proofs.Declining.{unless_none, malformed_none}
+use Rattle.secrecy.proofs.Steps.{Tied, tied_step, AlikeLoad, declined_same, step_same}
 use Rattle.secrecy.proofs.Masks.{split_sound, positive}
 use Rattle.secrecy.proofs.Making.{after, stage_made}
 use Rattle.secrecy.proofs.Runs.{next}
@@ -60,7 +61,7 @@ module _ (n : ℕ) (modulus : is_modulus n ≡ true) (h : Bool) (p : Option Numb
   accepts Advance y (Filling kept count) t d s = absurd s
   accepts Advance y (Running kept j) t d s =
       advances kept j t.1
-      (malformed_none (first_malformed_place (shares n) xs kept.plan.size) (unless_later (eqb n kept.modulus) Strange (malformed (first_malformed_place (shares n) xs kept.plan.size)) d)) s
+      (malformed_none (first_malformed_place (shares n) xs kept.plan.size) (unless_none (eqb n kept.modulus) Strange (malformed (first_malformed_place (shares n) xs kept.plan.size)) d).1) s
   accepts Advance y (Finished kept) t d s = absurd s
   accepts (LineCall k) y Idle t d s = absurd s
   accepts (LineCall k) y (Filling kept count) t d s = absurd s

@@ -1,5 +1,5 @@
 -- Whole lists of calls: the calls with the second samples, one by one.
-use Rattle.std.proofs.Common.{◌≡◌, ℕ, suc, ◌<◌, ◌≤◌, Bool, true, false, ◌&&◌, eqb, ltb, leb, List, [], ◌∷◌, length, None, Ok, Err, Option, Result, sym, refl, ap, subst, arith}
+use Rattle.std.proofs.Common.{◌≡◌, ℕ, suc, ◌<◌, ◌≤◌, Bool, true, false, ◌&&◌, eqb, ltb, leb, List, [], ◌∷◌, length, None, Ok, Err, Option, Result, sym, refl, ap, subst}
 use Rattle.integers.specs.declared.Complex.{Complex}
 use Rattle.integers.specs.Modulus.{is_modulus}
 use Rattle.integers.specs.Residue.{half as bound}
@@ -32,7 +32,7 @@ pub record Taken (n : ℕ) (p : Option Numbers) (x : Pair) : Type 0 where
   pub force : InForce n p kept
 
 accepted_never : (x : Refusal) (st : State) (bl : Pairs (Halves ℕ)) (r : Option Line) (st' : State) (bl' : Pairs (Halves ℕ)) → Declined x st bl (Ok r) st' bl' → ⊥
-accepted_never x st bl r st' bl' s = let e = s.answer in let z : ◌≡◌ {A = ℕ} 0 1 = cc in omega arith
+accepted_never x st bl r st' bl' s = let e = s.answer in cc
 
 taken_formed : (n i : ℕ) (st : State) (bl : Pairs (Halves ℕ)) (c : Call (Halves ℕ)) (r : Option Line) (st' : State) (bl' : Pairs (Halves ℕ)) (a b f : Bool) → StepBy (unless a Place (unless b Strange (unless f (Malformed i) None))) (shares n) st bl c (Ok r) st' bl' → f ≡ true
 taken_formed n i st bl c r st' bl' false b f s = absurd (accepted_never Place st bl r st' bl' s)

@@ -19,6 +19,7 @@ use Rattle.states.specs.declared.Call.TheVariants.{Plan as PlanCall, Load, Begin
 use Rattle.states.specs.declared.Line.{Line}
 use Rattle.states.specs.Step.{Pairs, Step, StepBy, Accepted, Becomes, Planned, Advanced, declined, plan_declined, line_malformed, unless, first, malformed, first_malformed_place, progress, stages_for}
 use Rattle.states.specs.History.{Numbers, plan_after}
+use Rattle.states.proofs.Declining.{unless_none, first_none, malformed_none}
 use Rattle.secrecy.specs.Secrecy.{bringing, refusal_of}
 use Rattle.secrecy.proofs.Plans.{same_plan}
 use Rattle.secrecy.proofs.Blocks.{Pair, Known, shares, known, Alike, alike_length, alike_formed, alike_malformed, alike_set}
@@ -48,33 +49,15 @@ tied_progress n p kept t f l = go (eqb t (stages_for kept.plan)) refl
     go true e = f
     go false e = (f, let d = eqb-false t (stages_for kept.plan) e in omega arith)
 
-pub none_some : {A : Type 0} (x : A) → Some x ≡ None → ⊥
-none_some x e = let z : ◌≡◌ {A = ℕ} 0 1 = cc in omega arith
-
-unless_holds : (b : Bool) (x : Refusal) (later : Option Refusal) → unless b x later ≡ None → b ≡ true
-unless_holds true x later e = refl
-unless_holds false x later e = absurd (none_some x e)
-
-pub unless_later : (b : Bool) (x : Refusal) (later : Option Refusal) → unless b x later ≡ None → later ≡ None
-unless_later true x later e = e
-unless_later false x later e = absurd (none_some x e)
-
-first_later : (o later : Option Refusal) → first o later ≡ None → later ≡ None
-first_later None later e = e
-first_later (Some x) later e = absurd (none_some x e)
-
-pub malformed_none : (o : Option ℕ) → malformed o ≡ None → o ≡ None
-malformed_none None e = refl
-malformed_none (Some i) e = absurd (none_some (Malformed i) e)
-
 module _ (n : ℕ) (p : Option Numbers) where
   tied_plan : (bl : Pairs (Halves ℕ)) (k : Method) (size q1 q2 : ℕ) (a : Result (Option Line) Refusal) (st' : State) (bl' : Pairs (Halves ℕ)) → plan_declined (shares n) bl k size q1 q2 ≡ None → Planned (shares n) bl k size q1 q2 a st' bl' → Tied n (plan_after {N = Halves ℕ} a (PlanCall k size q1 q2) p) st'
   tied_plan bl k size q1 q2 a st' bl' e s =
       let f = s.has in
       let figures : meaning_of s.plan ≡ figures_of k size q1 q2 =
       λ j. figures_of (f.method j) (f.size j) (f.sample j) (f.twiddle j) in
-      let later = first_later (refused k size q1 q2) (unless (leb size (length bl)) Block (unless (leb (least_modulus_of (figures_of k size q1 q2)) n) Narrow None)) e in
-      let fitting = unless_holds (leb (least_modulus_of (figures_of k size q1 q2)) n) Narrow None (unless_later (leb size (length bl)) Block (unless (leb (least_modulus_of (figures_of k size q1 q2)) n) Narrow None) later) in
+      let (made, later) = first_none (refused k size q1 q2) (unless (leb size (length bl)) Block (unless (leb (least_modulus_of (figures_of k size q1 q2)) n) Narrow None)) e in
+      let (long, last) = unless_none (leb size (length bl)) Block (unless (leb (least_modulus_of (figures_of k size q1 q2)) n) Narrow None) later in
+      let (fitting, end) = unless_none (leb (least_modulus_of (figures_of k size q1 q2)) n) Narrow None last in
       tied_as n p (PlanCall k size q1 q2) a (Ok None) st' (Filling (record { plan = s.plan; modulus = n }) 0) s.becomes.answer s.becomes.after
       (record {
         numbers = record { method = k; size = size; sample = q1; twiddle = q2 };
@@ -203,7 +186,7 @@ module _ (n : ℕ) (lawful : Sound (shares n)) (h : Bool) (p : Option Numbers) (
   accepted_same Advance y (Filling kept count) t e d s s' = absurd s
   accepted_same Advance y (Running kept j) t e d s s' =
       advance_same kept j t.1
-      (malformed_none (first_malformed_place (shares n) xs kept.plan.size) (unless_later (eqb n kept.modulus) Strange (malformed (first_malformed_place (shares n) xs kept.plan.size)) d)) s s'
+      (malformed_none (first_malformed_place (shares n) xs kept.plan.size) (unless_none (eqb n kept.modulus) Strange (malformed (first_malformed_place (shares n) xs kept.plan.size)) d).1) s s'
   accepted_same Advance y (Finished kept) t e d s s' = absurd s
   accepted_same (LineCall k) y Idle t e d s s' = absurd s
   accepted_same (LineCall k) y (Filling kept count) t e d s s' = absurd s

@@ -1,6 +1,5 @@
 -- Under the split over plain residues every list of calls has a run.
 use Rattle.std.proofs.Common.{◌≡◌, ℕ, suc, Bool, true, false, cond, eqb, leb, List, [], ◌∷◌, length, set, Some, None, Ok, Err, Option, Result, sym, refl, subst, leb-true}
-use borrow.Author.Tests.{clash}
 use Rattle.integers.specs.Modulus.{is_modulus}
 use Rattle.refusal.specs.declared.kinds.Refusal.{Refusal}
 use Rattle.refusal.specs.declared.kinds.Refusal.TheVariants.{Size, SampleScale, TwiddleScale, Block, Narrow, Strange}
@@ -16,35 +15,20 @@ use Rattle.states.specs.declared.State.TheVariants.{Idle, Filling, Running, Fini
 use Rattle.states.specs.declared.Call.{Call}
 use Rattle.states.specs.declared.Call.TheVariants.{Plan as PlanCall, Load, Begin, Advance, Line as LineCall, Restart}
 use Rattle.states.specs.declared.Line.{Line}
-use Rattle.states.specs.Step.{Pairs, Step, StepBy, Accepted, Becomes, declined, first, unless, malformed, first_malformed_place, progress, stated, line_read}
+use Rattle.states.specs.Step.{Pairs, Step, StepBy, Accepted, Becomes, declined, unless, malformed, first_malformed_place, progress, stated, line_read}
 use Rattle.states.specs.History.{Numbers, plan_after}
+use Rattle.states.proofs.Declining.{unless_none, first_none, malformed_none}
 use Rattle.secrecy.specs.Secrecy.{After, Run}
 use Rattle.secrecy.proofs.Blocks.{shares}
-use Rattle.secrecy.proofs.Steps.{Tied, tied_step, none_some, unless_later, malformed_none}
+use Rattle.secrecy.proofs.Steps.{Tied, tied_step}
 use Rattle.secrecy.proofs.Masks.{positive}
 use Rattle.secrecy.proofs.Making.{after, stage_made}
 
 -- ---- the plan of lawful numbers
 
-first_none : (o later : Option Refusal) → first o later ≡ None → o ≡ None
-first_none None later e = refl
-first_none (Some x) later e = absurd (none_some x e)
-
-holds : (b : Bool) (o : Option Refusal) (x : Refusal) → cond b o (Some x) ≡ None → b ≡ true
-holds true o x e = refl
-holds false o x e = absurd (none_some x e)
-
-later : (b : Bool) (o : Option Refusal) (x : Refusal) → cond b o (Some x) ≡ None → o ≡ None
-later true o x e = e
-later false o x e = absurd (none_some x e)
-
-both_least : (a b : Bool) → cond a b false ≡ true → a ≡ true
-both_least true b e = refl
-both_least false b e = e
-
-both_most : (a b : Bool) → cond a b false ≡ true → b ≡ true
-both_most true b e = e
-both_most false b e = absurd (clash e)
+both : (a b : Bool) → cond a b false ≡ true → (a ≡ true) × (b ≡ true)
+both true b e = (refl, e)
+both false b e = cc
 
 pub record Made (k : Method) (m q1 q2 : ℕ) : Type 0 where
   pub plan : Plan
@@ -54,21 +38,22 @@ pub plan_made : (k : Method) (m q1 q2 : ℕ) → refused k m q1 q2 ≡ None → 
 plan_made k m q1 q2 e =
     let second : Option Refusal = cond (within 32768 q2) None (Some TwiddleScale) in
     let sample : Option Refusal = cond (within 32767 q1) second (Some SampleScale) in
-    let e1 : sample ≡ None = later (sized k m) sample Size e in
-    let e2 : second ≡ None = later (within 32767 q1) second SampleScale e1 in
-    let w1 : within 32767 q1 ≡ true = holds (within 32767 q1) second SampleScale e1 in
-    let w2 : within 32768 q2 ≡ true = holds (within 32768 q2) None TwiddleScale e2 in
+    let (lawful, e1) = unless_none (sized k m) Size sample e in
+    let (w1, e2) = unless_none (within 32767 q1) SampleScale second e1 in
+    let (w2, end) = unless_none (within 32768 q2) TwiddleScale None e2 in
+    let (least1, most1) = both (leb 1 q1) (leb q1 32767) w1 in
+    let (least2, most2) = both (leb 1 q2) (leb q2 32768) w2 in
     record {
       plan = record {
         method = k;
         size = m;
         sample_scale = q1;
         twiddle_scale = q2;
-        size_lawful = holds (sized k m) sample Size e;
-        sample_positive = leb-true 1 q1 (both_least (leb 1 q1) (leb q1 32767) w1);
-        sample_limited = leb-true q1 32767 (both_most (leb 1 q1) (leb q1 32767) w1);
-        twiddle_positive = leb-true 1 q2 (both_least (leb 1 q2) (leb q2 32768) w2);
-        twiddle_limited = leb-true q2 32768 (both_most (leb 1 q2) (leb q2 32768) w2);
+        size_lawful = lawful;
+        sample_positive = leb-true 1 q1 least1;
+        sample_limited = leb-true q1 32767 most1;
+        twiddle_positive = leb-true 1 q2 least2;
+        twiddle_limited = leb-true q2 32768 most2;
       };
       has = record { method = refl; size = refl; sample = refl; twiddle = refl };
     }
@@ -88,7 +73,7 @@ pub record Steps (n : ℕ) (st : State) (bl : Pairs (Halves ℕ)) (c : Call (Hal
   pub step : Step (shares n) st bl c answer state block
 
 moment : (x : Refusal) (T : Type 0) → Some x ≡ None → T
-moment x T e = absurd (none_some x e)
+moment x T e = cc
 
 module _ (n : ℕ) (modulus : is_modulus n ≡ true) (p : Option Numbers) (bl : Pairs (Halves ℕ)) where
   simply : (r : Option Line) (st : State) (bl' : Pairs (Halves ℕ)) → Becomes r st bl' (Ok r) st bl'
@@ -96,7 +81,7 @@ module _ (n : ℕ) (modulus : is_modulus n ≡ true) (p : Option Numbers) (bl : 
 
   goes : (c : Call (Halves ℕ)) (st : State) → Tied n p st → declined (shares n) st bl c ≡ None → Goes n st bl c
   goes (PlanCall k size q1 q2) st t d =
-      let made = plan_made k size q1 q2 (first_none (refused k size q1 q2) (unless (leb size (length bl)) Block (unless (leb (least_modulus_of (figures_of k size q1 q2)) n) Narrow None)) d) in
+      let made = plan_made k size q1 q2 (first_none (refused k size q1 q2) (unless (leb size (length bl)) Block (unless (leb (least_modulus_of (figures_of k size q1 q2)) n) Narrow None)) d).0 in
       let st' : State = Filling (record { plan = made.plan; modulus = n }) 0 in
       record { answer = Ok None; state = st'; block = bl; step = record { plan = made.plan; has = made.has; becomes = simply None st' bl } }
   goes (Load i x) Idle t d = moment _ _ d
@@ -110,7 +95,7 @@ module _ (n : ℕ) (modulus : is_modulus n ≡ true) (p : Option Numbers) (bl : 
   goes Advance Idle t d = moment _ _ d
   goes Advance (Filling kept count) t d = moment _ _ d
   goes Advance (Running kept j) t d =
-      let clean : first_malformed_place (shares n) bl kept.plan.size ≡ None = malformed_none (first_malformed_place (shares n) bl kept.plan.size) (unless_later (eqb n kept.modulus) Strange (malformed (first_malformed_place (shares n) bl kept.plan.size)) d) in
+      let clean : first_malformed_place (shares n) bl kept.plan.size ≡ None = malformed_none (first_malformed_place (shares n) bl kept.plan.size) (unless_none (eqb n kept.modulus) Strange (malformed (first_malformed_place (shares n) bl kept.plan.size)) d).1 in
       let bl' : Pairs (Halves ℕ) = after n (positive n modulus) kept.plan j t.1 bl clean in
       record { answer = Ok None; state = progress kept (suc j); block = bl'; step = record { stage = stage_made n (positive n modulus) kept.plan j t.1 bl clean; becomes = simply None (progress kept (suc j)) bl' } }
   goes Advance (Finished kept) t d = moment _ _ d
