@@ -1,13 +1,15 @@
 -- The command that is read is the one that is spelled.
 use Rattle.std.proofs.Common.{◌≡◌, ℕ, true, cond, eqb, List, [], ◌∷◌, ◌++◌, Some, None, Option, sym, refl, ap, ◌∙◌, subst, inl, inr, eqb-true}
+use Rattle.std.specs.Option.{ok_or}
 use Rattle.integers.specs.Complex.{complex}
 use Rattle.plan.specs.declared.method.Method.{Method}
 use Rattle.plan.specs.declared.method.Method.TheVariants.{Direct, Radix2, Radix4}
+use Rattle.refusal.specs.declared.kinds.Refusal.TheVariants.{Garbled}
 use Rattle.command.specs.declared.kinds.Choice.TheVariants.{Plain, System, Split}
 use Rattle.command.specs.declared.kinds.Command.{Command}
 use Rattle.command.specs.declared.kinds.Command.TheVariants.{Choose, Plan, Load, Begin, Advance, Line, Restart}
 use Rattle.command.specs.Fields.{cut_at, letter_of, numeral_of, number_and_rest, whole_and_rest}
-use Rattle.command.specs.Spelling.{method_letter, Spells, SpelledOnce}
+use Rattle.command.specs.Spelling.{method_letter, Spells, SpelledOnce, Decodes}
 use Rattle.command.specs.Decoding.{also, first_of, fields_of, method_of, alone_of, system_of, choice_by, choice_of, plan_of, load_of, line_of, command_by, command_of}
 use Rattle.command.proofs.Spelled.{some_same, none_some, also_some, cond_some, letter_from, cut_from, numeral_from, numeral_to, number_then_from, number_then_to, whole_then_from, whole_then_to}
 
@@ -180,3 +182,8 @@ command_to Restart line e = ap command_of e
 
 pub spelled_once : SpelledOnce
 spelled_once line c d one two = some_same (sym (command_to c line one) ∙ command_to d line two)
+
+-- what is read, or Garbled where nothing is, decodes the line
+pub decodes_read : (line : List ℕ) (o : Option Command) → o ≡ command_of line → Decodes line (ok_or o Garbled)
+decodes_read line None e = (refl, λ d spelled. none_some (e ∙ command_to d line spelled))
+decodes_read line (Some c) e = command_from line c (sym e)

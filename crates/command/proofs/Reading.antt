@@ -1,64 +1,41 @@
 -- Fields cut and numbers read from the left, step by step.
-use Rattle.std.proofs.Common.{◌≡◌, ℕ, ◌+◌, ◌-◌, ◌*◌, ◌^◌, ◌<◌, ◌≤◌, true, false, ◌&&◌, eqb, leb, List, [], ◌∷◌, ◌++◌, length, get_or, take, drop, Some, None, Option, sym, refl, ap, append_assoc, pow-suc, add-one, arith, lit<, rules}
-use native.Mathlib.Nat.{pow-le-pow_right}
-use Rattle.std.proofs.lemmas.List.{append-nil, take_more, drop_more, drop_all}
+use Prim.Native.Nat.{suc}
+use Rattle.std.proofs.Common.{◌≡◌, ℕ, ◌+◌, ◌-◌, ◌*◌, ◌^◌, ◌<◌, ◌≤◌, true, false, ◌&&◌, Bool, cond, not, eqb, ltb, leb, List, [], ◌∷◌, length, take, drop, Some, None, Option, sym, refl, ap, ◌∙◌, arith, rules}
 use Rattle.std.specs.Char.{is_ascii_digit}
-use Rattle.command.specs.Fields.{cut_at, fronted, read_after, limited, numeral_of}
+use Rattle.std.specs.List.{position, position_or_len}
+use Rattle.std.specs.Option.{option_map, MatchOption}
+use Rattle.std.specs.Bool.{then_some}
+use Rattle.std.proofs.lemmas.Bool.Decides.{nat_tests}
+use Rattle.command.specs.Fields.{cut_at, fronted, read_after, digit_after, limited, numeral_of}
+use Rattle.command.specs.Decoding.{also}
+use Rattle.command.proofs.Folding.{folded}
 
--- more bytes in front of the first part
-abbrev pub after : List ℕ → Option (List ℕ × List ℕ) → Option (List ℕ × List ℕ)
-after front None = None
-after front (Some p) = Some (front ++ p.0, p.1)
+-- what is before place i and what is after it
+abbrev pub parts : List ℕ → ℕ → List ℕ × List ℕ
+parts text i = (take i text, drop (i + 1) text)
 
-after_fronted : (front : List ℕ) (x : ℕ) (o : Option (List ℕ × List ℕ)) → after front (fronted x o) ≡ after (front ++ x ∷ []) o
-after_fronted front x None = refl
-after_fronted front x (Some p) = ap (λ (a : List ℕ). Some (a, p.1)) (sym (append_assoc front (x ∷ []) p.0))
+-- a cut is made at the first place of the separator
+cut_later : (x i : ℕ) (xs : List ℕ) (b : Bool) → fronted x (cond b (Some (take i xs, drop (i + 1) xs)) None) ≡ cond b (Some (take (1 + i) (x ∷ xs), drop (1 + i + 1) (x ∷ xs))) None
+cut_later x i xs true = let e : 1 + i ≡ suc i = omega arith in let f : 1 + i + 1 ≡ suc (i + 1) = omega arith in rw (f, e)
+cut_later x i xs false = refl
 
-after_none : (o : Option (List ℕ × List ℕ)) → after [] o ≡ o
-after_none None = refl
-after_none (Some p) = refl
+cut_step : (x : ℕ) (xs : List ℕ) (b : Bool) (i : ℕ) (later : Option (List ℕ × List ℕ)) → later ≡ cond (ltb i (length xs)) (Some (take i xs, drop (i + 1) xs)) None → cond b (Some ([], xs)) (fronted x later) ≡ (let n = cond (not b) (1 + i) 0 in cond (ltb n (length (x ∷ xs))) (Some (take n (x ∷ xs), drop (n + 1) (x ∷ xs))) None)
+cut_step x xs true i later e = let some : ltb 0 (suc (length xs)) ≡ true = grind (arith, nat_tests) in rw some
+cut_step x xs false i later e = let same : ltb (1 + i) (suc (length xs)) ≡ ltb i (length xs) = grind (arith, nat_tests) in rw (same, e) (cut_later x i xs (ltb i (length xs)))
 
--- nothing is passed yet
-pub cut_none : (separator : ℕ) (text : List ℕ) → after (take 0 text) (cut_at separator (drop 0 text)) ≡ cut_at separator text
-cut_none separator text = after_none (cut_at separator text)
-
--- a byte that is no separator is passed
-pub cut_more : (separator : ℕ) (text : List ℕ) (i : ℕ) → i < length text → eqb (get_or text i 0) separator ≡ false → after (take (i + 1) text) (cut_at separator (drop (i + 1) text)) ≡ after (take i text) (cut_at separator (drop i text))
+cut_is : (separator : ℕ) (text : List ℕ) → cut_at separator text ≡ (let i = position_or_len (λ b. eqb b separator) text in cond (ltb i (length text)) (Some (take i text, drop (i + 1) text)) None)
 unfolding cut_at
-cut_more separator text i low other =
-    rw (take_more text i 0 low, drop_more text i 0 low, other) (sym (after_fronted (take i text) (get_or text i 0) (cut_at separator (drop (i + 1) text))))
+cut_is separator [] = refl
+cut_is separator (x ∷ xs) = cut_step x xs (eqb x separator) (position_or_len (λ b. eqb b separator) xs) (cut_at separator xs) (cut_is separator xs)
 
--- the separator is found
-pub cut_found : (separator : ℕ) (text : List ℕ) (i : ℕ) → i < length text → eqb (get_or text i 0) separator ≡ true → after (take i text) (cut_at separator (drop i text)) ≡ Some (take i text, drop (i + 1) text)
-unfolding cut_at
-cut_found separator text i low same = rw (drop_more text i 0 low, same) (ap (λ (a : List ℕ). Some (a, drop (i + 1) text)) (append-nil (take i text)))
+parts_by : (text : List ℕ) (n : ℕ) (b : Bool) → ◌≡◌ {A = Option (List ℕ × List ℕ)} (cond b (Some (take n text, drop (n + 1) text)) None) (option_map (parts text) (cond b (Some n) None))
+parts_by text n true = refl
+parts_by text n false = refl
 
--- there is none
-pub cut_all : (separator : ℕ) (text : List ℕ) (i : ℕ) → length text ≤ i → after (take i text) (cut_at separator (drop i text)) ≡ None
-unfolding cut_at
-cut_all separator text i past = rw (drop_all i text past)
-
--- one more digit
-pub read_more : (ds : List ℕ) (i n : ℕ) → i < length ds → is_ascii_digit (get_or ds i 0) ≡ true → read_after (n * 10 + (get_or ds i 0 - 48)) (drop (i + 1) ds) ≡ read_after n (drop i ds)
-unfolding read_after
-read_more ds i n low digit = rw (drop_more ds i 0 low, digit)
-
--- no digit
-pub read_stops : (ds : List ℕ) (i n : ℕ) → i < length ds → is_ascii_digit (get_or ds i 0) ≡ false → read_after n (drop i ds) ≡ None
-unfolding read_after
-read_stops ds i n low other = rw (drop_more ds i 0 low, other)
-
--- no more bytes
-pub read_all : (ds : List ℕ) (i n : ℕ) → length ds ≤ i → read_after n (drop i ds) ≡ Some n
-unfolding read_after
-read_all ds i n past = rw (drop_all i ds past)
-
--- a number of at most 18 digits, with one more digit, has at most 19
-pub read_room : (n i d : ℕ) → n < 10 ^ i → i ≤ 18 → d ≤ 9 → n * 10 + d < 10 ^ 19
-read_room n i d low few digit = omega (arith, pow-le-pow_right {n = 10} (lit< tt) few)
-
-pub read_below : (n i d : ℕ) → n < 10 ^ i → d ≤ 9 → n * 10 + d < 10 ^ (i + 1)
-read_below n i d low digit = rw (add-one, pow-suc) (omega arith)
+pub cut_at_place : (separator : ℕ) (text : List ℕ) (o : Option ℕ) → o ≡ position (λ b. eqb b separator) text → cut_at separator text ≡ option_map (parts text) o
+cut_at_place separator text o e =
+    let n = position_or_len (λ b. eqb b separator) text in
+    cut_is separator text ∙ (parts_by text n (ltb n (length text)) ∙ ap (option_map (parts text)) (sym e))
 
 -- too few or too many bytes
 pub numeral_unfit : (ds : List ℕ) → (leb 1 (length ds) && leb (length ds) 19) ≡ false → numeral_of ds ≡ None
@@ -72,7 +49,40 @@ limited_in n low = search rules
 pub limited_out : (n : ℕ) → 2 ^ 62 < n → limited (Some n) ≡ None
 limited_out n high = search rules
 
+-- what is read from above the limit is above it
+limited_beyond_by : (b : Bool) (later : Option ℕ) → limited later ≡ None → limited (cond b later None) ≡ None
+limited_beyond_by true later e = e
+limited_beyond_by false later e = refl
+
+limited_beyond : (n : ℕ) (ds : List ℕ) → 2 ^ 62 < n → limited (read_after n ds) ≡ None
+unfolding read_after
+limited_beyond n [] high = limited_out n high
+limited_beyond n (c ∷ cs) high = limited_beyond_by (is_ascii_digit c) (read_after (n * 10 + (c - 48)) cs) (limited_beyond (n * 10 + (c - 48)) cs (omega arith))
+
+-- digits read as long as the number fits the type are digits read, up to the limit
+limited_step : (b t : Bool) (m : ℕ) (cs : List ℕ) → ltb m (2 ^ 64) ≡ t → limited (folded digit_after m cs) ≡ limited (read_after m cs) → limited (also (cond (b && t) (Some m) None) (λ k. folded digit_after k cs)) ≡ limited (cond b (read_after m cs) None)
+limited_step true true m cs is e = e
+limited_step true false m cs is e = sym (limited_beyond m cs (let high : 2 ^ 64 ≤ m = grind (arith, nat_tests) in omega arith))
+limited_step false t m cs is e = refl
+
+limited_folded : (n : ℕ) (ds : List ℕ) → limited (folded digit_after n ds) ≡ limited (read_after n ds)
+unfolding read_after
+limited_folded n [] = refl
+limited_folded n (c ∷ cs) = limited_step (is_ascii_digit c) (ltb (n * 10 + (c - 48)) (2 ^ 64)) (n * 10 + (c - 48)) cs refl (limited_folded (n * 10 + (c - 48)) cs)
+
+-- what a filter at the limit leaves
+then_some_is : (b : Bool) (x : ℕ) → then_some b x ≡ cond b (Some x) None
+then_some_is true x = refl
+then_some_is false x = refl
+
+pub filtered_is : {P : ℕ → Bool → Type 0} (o r : Option ℕ) → ((x : ℕ) (b : Bool) → P x b → b ≡ leb x (2 ^ 62)) → MatchOption o (r ≡ None) (λ x. (b : Bool) × P x b × (r ≡ then_some b x)) → r ≡ limited o
+filtered_is None r each e = e
+filtered_is (Some x) r each (b, h, e) = e ∙ (ap (λ t. then_some t x) (each x b h) ∙ then_some_is (leb x (2 ^ 62)) x)
+
 -- a numeral is what was read, up to the limit
 pub numeral_is : (ds : List ℕ) (o : Option ℕ) → (leb 1 (length ds) && leb (length ds) 19) ≡ true → read_after 0 ds ≡ o → numeral_of ds ≡ limited o
 unfolding numeral_of
 numeral_is ds o fit e = rw (fit, e)
+
+pub numeral_folded : (ds : List ℕ) (o r : Option ℕ) → (leb 1 (length ds) && leb (length ds) 19) ≡ true → o ≡ folded digit_after 0 ds → r ≡ limited o → r ≡ numeral_of ds
+numeral_folded ds o r fit read e = e ∙ (ap limited read ∙ (limited_folded 0 ds ∙ sym (numeral_is ds (read_after 0 ds) fit refl)))

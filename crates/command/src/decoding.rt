@@ -4,7 +4,7 @@ ghost use Rattle.std.specs.Option.{option_map};
 ghost use Rattle.command.specs.Decoding.{fields_of, method_of, alone_of, system_of, choice_of, plan_of, load_of, line_of, command_of};
 ghost use Rattle.command.specs.Spelling.{Decodes, SpelledOnce};
 
-use crate::fields::{cut, letter, number_then, numeral, whole_then};
+use crate::fields::{FromField, cut, letter, value_then};
 use crate::kinds::{Choice, Command};
 use integers::Complex;
 use plan::Method;
@@ -14,10 +14,7 @@ use refusal::Refusal;
 fn first_field(line: &[u8]) -> (&[u8], Option<&[u8]>)
     ensures { (result.0.now, option_map (λ x. x.now) result.1) ≡ fields_of line.now }
 {
-    match cut(line, b',') {
-        Some((first, rest)) => (first, Some(rest)),
-        None => (line, None),
-    }
+    cut(line, b',').map_or((line, None), |(first, rest)| (first, Some(rest)))
 }
 
 // The method of a letter.
@@ -36,19 +33,17 @@ fn read_method(letter: char) -> Option<Method>
 fn alone(command: Command, rest: Option<&[u8]>) -> Option<Command>
     ensures { result ≡ alone_of command (option_map (λ x. x.now) rest.entry) }
 {
-    match rest {
-        Some(_) => None,
-        None => Some(command),
-    }
+    rest.is_none().then_some(command)
 }
 
 // Three moduli.
+#[tactic(auto, unfolding(crate::specs::Decoding::system_of, crate::specs::Fields::number_and_rest))]
 fn read_system(text: &[u8]) -> Option<Command>
     ensures { result ≡ system_of text.now }
 {
-    let (first, text) = number_then(text)?;
-    let (second, text) = number_then(text)?;
-    let third = numeral(text)?;
+    let (first, text) = value_then(text)?;
+    let (second, text) = value_then(text)?;
+    let third = u64::from_field(text)?;
     Some(Command::Choose(Choice::System {
         first,
         second,
@@ -57,33 +52,29 @@ fn read_system(text: &[u8]) -> Option<Command>
 }
 
 // The letter of a scheme and its moduli.
+#[tactic(auto, unfolding(crate::specs::Decoding::choice_of, crate::specs::Decoding::choice_by))]
 fn read_choice(text: &[u8]) -> Option<Command>
     ensures { result ≡ choice_of text.now }
 {
     let (kind, text) = cut(text, b',')?;
     match letter(kind)? {
-        'r' => {
-            let modulus = numeral(text)?;
-            Some(Command::Choose(Choice::Plain { modulus }))
-        }
+        'r' => u64::from_field(text).map(|modulus| Command::Choose(Choice::Plain { modulus })),
         'y' => read_system(text),
-        'p' => {
-            let modulus = numeral(text)?;
-            Some(Command::Choose(Choice::Split { modulus }))
-        }
+        'p' => u64::from_field(text).map(|modulus| Command::Choose(Choice::Split { modulus })),
         _ => None,
     }
 }
 
 // The letter of a method, the size and the two scales.
+#[tactic(auto, unfolding(crate::specs::Decoding::plan_of, crate::specs::Fields::number_and_rest))]
 fn read_plan(text: &[u8]) -> Option<Command>
     ensures { result ≡ plan_of text.now }
 {
     let (kind, text) = cut(text, b',')?;
     let method = read_method(letter(kind)?)?;
-    let (size, text) = number_then(text)?;
-    let (sample_scale, text) = number_then(text)?;
-    let twiddle_scale = numeral(text)?;
+    let (size, text) = value_then(text)?;
+    let (sample_scale, text) = value_then(text)?;
+    let twiddle_scale = u64::from_field(text)?;
     Some(Command::Plan {
         method,
         size,
@@ -93,14 +84,15 @@ fn read_plan(text: &[u8]) -> Option<Command>
 }
 
 // The number of the sample, its two components and two mask words.
+#[tactic(auto, unfolding(crate::specs::Decoding::load_of, crate::specs::Fields::number_and_rest, crate::specs::Fields::whole_and_rest))]
 fn read_load(text: &[u8]) -> Option<Command>
     ensures { result ≡ load_of text.now }
 {
-    let (n, text) = number_then(text)?;
-    let (re, text) = whole_then(text)?;
-    let (im, text) = whole_then(text)?;
-    let (first, text) = number_then(text)?;
-    let second = numeral(text)?;
+    let (n, text) = value_then::<u64>(text)?;
+    let (re, text) = value_then(text)?;
+    let (im, text) = value_then(text)?;
+    let (first, text) = value_then(text)?;
+    let second = u64::from_field(text)?;
     Some(Command::Load {
         n: n as usize,
         sample: Complex { re, im },
@@ -112,11 +104,11 @@ fn read_load(text: &[u8]) -> Option<Command>
 fn read_line(text: &[u8]) -> Option<Command>
     ensures { result ≡ line_of text.now }
 {
-    let k = numeral(text)?;
-    Some(Command::Line { k: k as usize })
+    u64::from_field(text).map(|k| Command::Line { k: k as usize })
 }
 
 // The command by the letter of its first field.
+#[tactic(auto, unfolding(crate::specs::Decoding::command_of, crate::specs::Decoding::command_by))]
 fn read_command(text: &[u8]) -> Option<Command>
     ensures { result ≡ command_of text.now }
 {
@@ -137,10 +129,7 @@ fn read_command(text: &[u8]) -> Option<Command>
 pub fn decode(text: &[u8]) -> Result<Command, Refusal>
     ensures { Decodes text.now result }
 {
-    match read_command(text) {
-        Some(command) => Ok(command),
-        None => Err(Refusal::Garbled),
-    }
+    read_command(text).ok_or(Refusal::Garbled)
 }
 
 // A line spells one command at most.

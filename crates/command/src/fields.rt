@@ -1,7 +1,7 @@
 // Fields of a line and the numbers in them.
-ghost use Rattle.std.specs.Prelude.{◌≡◌, ◌^◌, ◌<◌, ◌≤◌, length, drop, pos, neg_ℤ, IfSome};
+ghost use Rattle.std.specs.Prelude.{◌≡◌, ◌^◌, ◌≤◌, ℕ, List, Option, IfSome};
 ghost use Rattle.std.specs.Option.{option_map};
-ghost use Rattle.command.specs.Fields.{cut_at, letter_of, numeral_of, whole_of, number_and_rest, whole_and_rest};
+ghost use Rattle.command.specs.Fields.{cut_at, letter_of, digit_after, numeral_of, whole_of, heading};
 
 // The largest number of a command, 2^62.
 const LARGEST: u64 = 4_611_686_018_427_387_904;
@@ -10,12 +10,8 @@ const LARGEST: u64 = 4_611_686_018_427_387_904;
 pub(crate) fn cut(text: &[u8], separator: u8) -> Option<(&[u8], &[u8])>
     ensures { option_map (λ x. (x.0.now, x.1.now)) result ≡ cut_at separator text.now }
 {
-    for (i, b) in text.iter().enumerate() {
-        if *b == separator {
-            return Some((&text[0..i], &text[i + 1..]));
-        }
-    }
-    None
+    let at = text.iter().position(|b| *b == separator)?;
+    Some((&text[..at], &text[at + 1..]))
 }
 
 // The one character of a field.
@@ -28,78 +24,57 @@ pub(crate) fn letter(field: &[u8]) -> Option<char>
     }
 }
 
-// The number that 1 to 19 decimal digits write, at most 2^62.
-pub(crate) fn numeral(field: &[u8]) -> Option<u64>
-    ensures value { result ≡ numeral_of field.now }
-    ensures bound { IfSome result (λ n. n ≤ 2 ^ 62) }
+// n with one more decimal digit, or none where the byte is no digit or the number is too large for the type.
+fn with_digit(n: u64, byte: &u8) -> Option<u64>
+    ensures { result ≡ digit_after n byte.now }
 {
-    if field.is_empty() || field.len() > 19 {
-        return None;
-    }
-    let mut n = 0u64;
-    for b in field {
-        if !b.is_ascii_digit() {
+    let digit = char::from(*byte).to_digit(10)?;
+    n.checked_mul(10)?.checked_add(u64::from(digit))
+}
+
+// A value that a field can write.
+pub(crate) trait FromField: Sized {
+    ghost value_of: { List ℕ → Option Self };
+
+    // The value that the field writes, where it writes one.
+    fn from_field(field: &[u8]) -> Option<Self>
+        ensures { result ≡ value_of field.now };
+}
+
+// A numeral: 1 to 19 decimal digits that write a number up to 2^62.
+impl FromField for u64 {
+    ghost value_of = { numeral_of };
+
+    fn from_field(field: &[u8]) -> Option<u64>
+        ensures value { result ≡ numeral_of field.now }
+        ensures bound { IfSome result (λ n. n ≤ 2 ^ 62) }
+    {
+        if field.is_empty() || field.len() > 19 {
             return None;
         }
-        n = n * 10 + u64::from(*b - b'0');
+        field
+            .iter()
+            .try_fold(0, with_digit)
+            .filter(|n| *n <= LARGEST)
     }
-    if n <= LARGEST { Some(n) } else { None }
-}
-
-// n as a signed number.
-fn plus(n: u64) -> i64
-    requires { n ≤ 2 ^ 62 }
-    ensures { result ≡ pos n }
-{
-    n as i64
-}
-
-// The opposite of n.
-fn minus(n: u64) -> i64
-    requires { n ≤ 2 ^ 62 }
-    ensures { result ≡ neg_ℤ (pos n) }
-{
-    -(n as i64)
-}
-
-// What follows the first byte.
-fn tail(field: &[u8]) -> &[u8]
-    requires { 0 < length field.now }
-    ensures { result.now ≡ drop 1 field.now }
-{
-    &field[1..]
 }
 
 // A whole number: a numeral, or a minus sign and a numeral.
-pub(crate) fn whole(field: &[u8]) -> Option<i64>
-    ensures { result ≡ whole_of field.now }
-{
-    match field {
-        [b'-', ..] => {
-            let n = numeral(tail(field))?;
-            Some(minus(n))
-        }
-        _ => {
-            let n = numeral(field)?;
-            Some(plus(n))
+impl FromField for i64 {
+    ghost value_of = { whole_of };
+
+    fn from_field(field: &[u8]) -> Option<i64> {
+        match field {
+            [b'-', digits @ ..] => u64::from_field(digits).map(|n| -(n as i64)),
+            _ => u64::from_field(field).map(|n| n as i64),
         }
     }
 }
 
-// A number, a comma and the rest.
-pub(crate) fn number_then(text: &[u8]) -> Option<(u64, &[u8])>
-    ensures { option_map (λ x. (x.0, x.1.now)) result ≡ number_and_rest text.now }
+// A value, a comma and the rest.
+pub(crate) fn value_then<T: FromField>(text: &[u8]) -> Option<(T, &[u8])>
+    ensures { option_map (λ x. (x.0, x.1.now)) result ≡ heading T.value_of (cut_at 44 text.now) }
 {
     let (field, rest) = cut(text, b',')?;
-    let n = numeral(field)?;
-    Some((n, rest))
-}
-
-// A whole number, a comma and the rest.
-pub(crate) fn whole_then(text: &[u8]) -> Option<(i64, &[u8])>
-    ensures { option_map (λ x. (x.0, x.1.now)) result ≡ whole_and_rest text.now }
-{
-    let (field, rest) = cut(text, b',')?;
-    let z = whole(field)?;
-    Some((z, rest))
+    Some((T::from_field(field)?, rest))
 }
