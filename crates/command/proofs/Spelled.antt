@@ -1,19 +1,14 @@
 -- Reading a line from the left finds the command that it spells, and no other.
 use Rattle.std.proofs.Common.{◌≡◌, ℕ, ◌+◌, ◌-◌, ◌*◌, ◌^◌, ◌≤◌, Bool, true, false, cond, ◌&&◌, eqb, leb, ◌⊎◌, List, [], ◌∷◌, ◌++◌, length, get_or, drop, ℤ, pos, neg_ℤ, Some, None, Option, sym, refl, ap, ◌∙◌, subst, inl, inr, arith, rules, eqb-true, le-leb, leb-true}
+use Rattle.std.proofs.lemmas.Option.{none-some, same_Some}
 use Rattle.std.specs.Char.{is_ascii_digit}
 use Rattle.command.specs.Fields.{fronted, cut_at, letter_of, read_after, limited, numeral_of, positive, negative, whole_of, heading, beside, number_and_rest, whole_and_rest}
 use Rattle.command.specs.Spelling.{digits_only, number_after, Numeral, Whole}
 use Rattle.command.specs.Decoding.{also}
 use Rattle.command.proofs.Reading.{limited_in, numeral_is}
 
-pub some_same : {A : Type 0} {x y : A} → ◌≡◌ {A = Option A} (Some x) (Some y) → x ≡ y
-some_same e = cc
-
-pub none_some : {A : Type 0} {x : A} → ◌≡◌ {A = Option A} None (Some x) → ⊥
-none_some e = let z : ◌≡◌ {A = ℕ} 0 1 = cc in omega arith
-
 pub also_some : {A B : Type 0} (o : Option A) (f : A → Option B) (c : B) → also o f ≡ Some c → (x : A) × (o ≡ Some x) × (f x ≡ Some c)
-also_some None f c e = absurd (none_some e)
+also_some None f c e = absurd (none-some _ e)
 also_some (Some x) f c e = (x, refl, e)
 
 pub cond_some : {A : Type 0} (b : Bool) (x y : Option A) (c : A) → cond b x y ≡ Some c → ((b ≡ true) × (x ≡ Some c)) ⊎ (y ≡ Some c)
@@ -21,19 +16,19 @@ cond_some true x y c e = inl (refl, e)
 cond_some false x y c e = inr e
 
 pub letter_from : (a : List ℕ) (x : ℕ) → letter_of a ≡ Some x → a ≡ x ∷ []
-letter_from [] x e = absurd (none_some e)
-letter_from (y ∷ []) x e = ap (λ v. v ∷ []) (some_same e)
-letter_from (y ∷ z ∷ zs) x e = absurd (none_some e)
+letter_from [] x e = absurd (none-some _ e)
+letter_from (y ∷ []) x e = ap (λ v. v ∷ []) (same_Some _ _ e)
+letter_from (y ∷ z ∷ zs) x e = absurd (none-some _ e)
 
 -- cuts
 cut_step : (s x : ℕ) (xs : List ℕ) (b : Bool) → eqb x s ≡ b → (o : Option (List ℕ × List ℕ)) → ((q : List ℕ × List ℕ) → o ≡ Some q → xs ≡ q.0 ++ s ∷ q.1) → (p : List ℕ × List ℕ) → cond b (Some ([], xs)) (fronted x o) ≡ Some p → x ∷ xs ≡ p.0 ++ s ∷ p.1
-cut_step s x xs true is o before p e = subst (λ (q : List ℕ × List ℕ). x ∷ xs ≡ q.0 ++ s ∷ q.1) (some_same e) (ap (λ y. y ∷ xs) (eqb-true x s is))
-cut_step s x xs false is None before p e = absurd (none_some e)
-cut_step s x xs false is (Some q) before p e = subst (λ (r : List ℕ × List ℕ). x ∷ xs ≡ r.0 ++ s ∷ r.1) (some_same e) (ap (λ t. x ∷ t) (before q refl))
+cut_step s x xs true is o before p e = subst (λ (q : List ℕ × List ℕ). x ∷ xs ≡ q.0 ++ s ∷ q.1) (same_Some _ _ e) (ap (λ y. y ∷ xs) (eqb-true x s is))
+cut_step s x xs false is None before p e = absurd (none-some _ e)
+cut_step s x xs false is (Some q) before p e = subst (λ (r : List ℕ × List ℕ). x ∷ xs ≡ r.0 ++ s ∷ r.1) (same_Some _ _ e) (ap (λ t. x ∷ t) (before q refl))
 
 pub cut_from : (s : ℕ) (text : List ℕ) (p : List ℕ × List ℕ) → cut_at s text ≡ Some p → text ≡ p.0 ++ s ∷ p.1
 unfolding cut_at
-cut_from s [] p e = absurd (none_some e)
+cut_from s [] p e = absurd (none-some _ e)
 cut_from s (x ∷ xs) p e = cut_step s x xs (eqb x s) refl (cut_at s xs) (cut_from s xs) p e
 
 digit_no_comma : (c : ℕ) → is_ascii_digit c ≡ true → eqb c 44 ≡ false
@@ -72,20 +67,20 @@ read_is n (c ∷ cs) =
     read_and (is_ascii_digit c) (digits_only cs) (read_after (n * 10 + (c - 48)) cs) (Some (number_after (n * 10 + (c - 48)) cs)) (read_is (n * 10 + (c - 48)) cs)
 
 limited_from : (o : Option ℕ) (n : ℕ) → limited o ≡ Some n → (o ≡ Some n) × (n ≤ 2 ^ 62)
-limited_from None n e = absurd (none_some e)
+limited_from None n e = absurd (none-some _ e)
 limited_from (Some m) n e = limited_by (leb m (2 ^ 62)) m n refl e
   where
     limited_by : (b : Bool) (m n : ℕ) → leb m (2 ^ 62) ≡ b → cond b (Some m) None ≡ Some n → (◌≡◌ {A = Option ℕ} (Some m) (Some n)) × (n ≤ 2 ^ 62)
     limited_by true m n is e = (e, search rules)
-    limited_by false m n is e = absurd (none_some e)
+    limited_by false m n is e = absurd (none-some _ e)
 
 digits_from : (d : Bool) (v n : ℕ) → cond d (Some v) None ≡ Some n → (d ≡ true) × (v ≡ n)
-digits_from true v n e = (refl, some_same e)
-digits_from false v n e = absurd (none_some e)
+digits_from true v n e = (refl, same_Some _ _ e)
+digits_from false v n e = absurd (none-some _ e)
 
 pub numeral_from : (ds : List ℕ) (n : ℕ) → numeral_of ds ≡ Some n → Numeral n ds
 unfolding numeral_of
-numeral_from ds n e = elim (cond_some (leb 1 (length ds) && leb (length ds) 19) (limited (read_after 0 ds)) None n e) [ inl h ↦ numeral_fit ds n h.0 h.1 | inr h ↦ absurd (none_some h) ]
+numeral_from ds n e = elim (cond_some (leb 1 (length ds) && leb (length ds) 19) (limited (read_after 0 ds)) None n e) [ inl h ↦ numeral_fit ds n h.0 h.1 | inr h ↦ absurd (none-some _ h) ]
   where
     numeral_fit : (ds : List ℕ) (n : ℕ) → (leb 1 (length ds) && leb (length ds) 19) ≡ true → limited (read_after 0 ds) ≡ Some n → Numeral n ds
     numeral_fit ds n fit e =
@@ -107,12 +102,12 @@ numeral_to ds n h =
 
 -- whole numbers
 positive_from : (o : Option ℕ) (z : ℤ) → positive o ≡ Some z → (n : ℕ) × (o ≡ Some n) × (z ≡ pos n)
-positive_from None z e = absurd (none_some e)
-positive_from (Some n) z e = (n, refl, sym (some_same e))
+positive_from None z e = absurd (none-some _ e)
+positive_from (Some n) z e = (n, refl, sym (same_Some _ _ e))
 
 negative_from : (o : Option ℕ) (z : ℤ) → negative o ≡ Some z → (n : ℕ) × (o ≡ Some n) × (z ≡ neg_ℤ (pos n))
-negative_from None z e = absurd (none_some e)
-negative_from (Some n) z e = (n, refl, sym (some_same e))
+negative_from None z e = absurd (none-some _ e)
+negative_from (Some n) z e = (n, refl, sym (same_Some _ _ e))
 
 numeral_first : (c : ℕ) (cs : List ℕ) → digits_only (c ∷ cs) ≡ true → eqb c 45 ≡ false
 numeral_first c cs only = digit_no_minus c (and_first (is_ascii_digit c) (digits_only cs) only)
@@ -147,11 +142,11 @@ heading_from : {A : Type 0} (reads : List ℕ → Option A) (text : List ℕ) (x
 heading_from {A} reads text x e = heading_by (cut_at 44 text) refl e
   where
     beside_from : (o : Option A) (rest : List ℕ) → beside o rest ≡ Some x → (o ≡ Some x.0) × (rest ≡ x.1)
-    beside_from None rest e = absurd (none_some e)
-    beside_from (Some y) rest e = (ap (λ (q : A × List ℕ). Some q.0) (some_same e), ap (λ (q : A × List ℕ). q.1) (some_same e))
+    beside_from None rest e = absurd (none-some _ e)
+    beside_from (Some y) rest e = (ap (λ (q : A × List ℕ). Some q.0) (same_Some _ _ e), ap (λ (q : A × List ℕ). q.1) (same_Some _ _ e))
 
     heading_by : (o : Option (List ℕ × List ℕ)) → cut_at 44 text ≡ o → heading reads o ≡ Some x → (a : List ℕ) × (reads a ≡ Some x.0) × (text ≡ a ++ 44 ∷ x.1)
-    heading_by None is e = absurd (none_some e)
+    heading_by None is e = absurd (none-some _ e)
     heading_by (Some p) is e = let found = beside_from (reads p.0) p.1 e in (p.0, found.0, cut_from 44 text p is ∙ ap (λ (t : List ℕ). p.0 ++ 44 ∷ t) found.1)
 
 pub number_then_from : (text : List ℕ) (x : ℕ × List ℕ) → number_and_rest text ≡ Some x → (a : List ℕ) × Numeral x.0 a × (text ≡ a ++ 44 ∷ x.1)

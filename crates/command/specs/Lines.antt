@@ -1,8 +1,8 @@
 -- The lines of the console's input.
-use Rattle.std.specs.Prelude.{◌≡◌, ℕ, ◌≤◌, ◌⊎◌, List, [], ◌∷◌, ◌++◌, length, Some, None, Option, Result, ◌≢◌}
+use Rattle.std.specs.Prelude.{◌≡◌, ℕ, ◌≤◌, ◌⊎◌, List, [], ◌∷◌, ◌++◌, length, Result, ◌≢◌}
 use Rattle.refusal.specs.declared.kinds.Refusal.{Refusal}
 use Rattle.command.specs.declared.kinds.Command.{Command}
-use Rattle.command.specs.Fields.{cut_at}
+use Rattle.std.specs.Io.BufRead.{strip_last}
 use Rattle.command.specs.Spelling.{Decodes}
 
 -- no byte of the text is a line feed
@@ -33,10 +33,6 @@ pub record DecodesAll (input : List ℕ) (ds : List (Result Command Refusal)) : 
   pub split : Lines input lines
   pub each : AllDecode lines ds
 
--- the bytes before the first line feed and those after it
-abbrev pub first_or : List ℕ → Option (List ℕ × List ℕ) → List ℕ × List ℕ
-first_or text None = (text, [])
-first_or text (Some p) = p
-
-abbrev pub first_line_of : List ℕ → List ℕ × List ℕ
-first_line_of text = first_or text (cut_at 10 text)
+-- a line without the line feed that it ends in
+abbrev pub without_feed : List ℕ → List ℕ
+without_feed line = strip_last 10 line

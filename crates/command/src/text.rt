@@ -44,8 +44,7 @@ pub fn transcript(answers: &[states::Answer], heap: Global) -> Result<String, Al
     let mut text = String::new(heap);
     for answer in answers {
         let answer = Answer { answer: *answer };
-        let line = format!(in heap; "{answer}\n")?;
-        text.push_str(line.as_str())?;
+        writeln!(text, "{answer}")?;
     }
     Ok(text)
 }

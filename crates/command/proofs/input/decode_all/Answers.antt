@@ -1,21 +1,12 @@
-use Rattle.std.proofs.Common.{◌≡◌, ℕ, ◌<◌, ◌≤◌, List, [], ◌∷◌, ◌++◌, length, vec_items, sym, subst, rules}
-use Rattle.std.proofs.lemmas.List.{nil_from_length}
-use Rattle.command.proofs.Splitting.{shorter, progress_more, progress_all}
+use Rattle.std.proofs.Common.{rules, tests}
+use Rattle.std.proofs.lemmas.Iterator.{YieldsList-from_map, items_from_collect}
+use Rattle.std.proofs.lemmas.Iterator.Consumers.{YieldsList-at}
+use Rattle.std.proofs.lemmas.Result.{IfOk-weaker}
+use Rattle.command.specs.Lines.{without_feed, DecodesAll}
+use Rattle.command.proofs.Splitting.{fed_by_split, decoded, decoded_once, decodes_fed}
 use Rattle.command.proofs.input.decode_all.Goals as goal
-
-pub loop-rest-smaller : goal.loop-rest-smaller
-loop-rest-smaller c =
-    let some : 1 ≤ length c.loop-rest.rest.now = search rules in
-    subst (λ (p : List ℕ × List ℕ). length p.1 < length c.loop-rest.rest.now) (sym c.first_line.ensures) (shorter c.loop-rest.rest.now some)
-
-pub loop-rest-preserved : goal.loop-rest-preserved
-loop-rest-preserved c =
-    let some : 1 ≤ length c.loop-rest.rest.now = search rules in
-    let more = progress_more c.args.input.now (vec_items c.loop-rest.decoded) c.loop-rest.rest.now c.loop-rest.invariant some (c.first_line.result.0.now, c.first_line.result.1.now) c.first_line.ensures c.decode.result c.decode.ensures in
-    let pushed : vec_items c.push.new.self ≡ vec_items c.loop-rest.decoded ++ c.decode.result ∷ [] = search rules in
-    rw pushed more
 
 pub returns : goal.returns
 returns c =
-    let none : length c.loop-rest.rest.now ≡ 0 = search rules in
-    progress_all c.args.input.now (vec_items c.loop-rest.decoded) c.loop-rest.rest.now c.loop-rest.invariant (nil_from_length c.loop-rest.rest.now none)
+    let items = items_from_collect c.collect.result c.collect.ensures.ran (YieldsList-from_map _ (λ p. decoded (without_feed p)) (YieldsList-at c.map.ensures.source (fed_by_split _ c.args.input.now c.split_inclusive.ensures.rest c.split_inclusive.ensures.closure (λ x b q k. search (rules, tests)))) c.map.ensures.closure (λ x r q k. search (rules, decoded_once))) in
+    IfOk-weaker c.collect.result _ (λ v. DecodesAll c.args.input.now v.items) (λ v e. decodes_fed c.args.input.now v.items e) items
