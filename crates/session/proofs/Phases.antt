@@ -1,5 +1,5 @@
 -- Lines served one after another, window by window.
-use Rattle.std.proofs.Common.{◌≡◌, ℕ, ◌<◌, ◌≤◌, List, [], ◌∷◌, ◌++◌, length, get_or, take, IfOk, Some, None, Ok, Err, Option, Result, sym, refl, ap, ◌∙◌, subst, inl, inr}
+use Rattle.std.proofs.Common.{◌≡◌, ℕ, ◌<◌, ◌≤◌, List, [], ◌∷◌, ◌++◌, length, get_or, take, IfOk, Some, None, ControlFlow, Continue, Break, Ok, Err, Option, Result, sym, refl, ap, ◌∙◌, subst, inl, inr}
 use Rattle.std.proofs.lemmas.List.{length_push, take_more, take_all, get_or_default}
 use Rattle.plain.specs.declared.Plain.{Plain as PlainOf}
 use Rattle.refusal.specs.declared.kinds.Refusal.{Refusal}
@@ -17,8 +17,8 @@ use Rattle.command.specs.declared.kinds.Choice.TheVariants.{Plain as PlainChoice
 use Rattle.command.specs.declared.kinds.Command.TheVariants.{Choose, Plan, Load, Begin, Advance, Line, Restart}
 use Rattle.session.specs.declared.schemes.Chosen.{Chosen}
 use Rattle.session.specs.declared.schemes.Chosen.TheVariants.{Plain, System, Split}
-use Rattle.session.specs.Session.{Decoded, Answer, Console, absent, plain, system, shared, LawfulChoice, Turn, Turns}
-use Rattle.session.specs.Serving.{Makes, Keeps, Embeds, Ready, ReadyFor, Served, ServedFrom, ServedUnder}
+use Rattle.session.specs.Session.{Decoded, Answer, Console, absent, plain, system, shared, Turn, Turns}
+use Rattle.session.specs.Serving.{Makes, Keeps, Embeds, Ready, ReadyFor, Served, ServedFrom, ServedUnder, Choosing, TurningAbsent}
 
 -- one line more
 turns_more : (w v u : Console) (ds : List Decoded) (rs : List Answer) (d : Decoded) (a : Answer) → Turns w ds rs v → Turn v d a u → Turns w (ds ++ d ∷ []) (rs ++ a ∷ []) u
@@ -111,9 +111,10 @@ shared_held n st bl (Ok Restart) a st' bl' h = (st', bl', h, refl)
 abbrev pub Waits : List Decoded → List Answer → Type 0
 Waits ds rs = Turns absent (take (length rs) ds) rs absent
 
--- a declined choice
-pub declined_choice : (d : Decoded) (c : Choice) (x : Refusal) → d ≡ Ok (Choose c) → (x ≡ Modulus) × (LawfulChoice c → ⊥) → Turn absent d (Err x) absent
-declined_choice d c x e (is, unlawful) = subst (λ (y : Decoded). Turn absent y (Err x) absent) (sym e) (inr (unlawful, ap {B = Answer} (λ (y : Refusal). Err y) is, refl))
+-- a choice
+pub chosen_absent : (d : Decoded) (c : Choice) (r : ControlFlow Chosen Answer) → d ≡ Ok (Choose c) → Choosing c r → TurningAbsent d r
+chosen_absent d c (Continue a) is (unlawful, e) = subst (λ (y : Decoded). Turn absent y a absent) (sym is) (inr (unlawful, e, refl))
+chosen_absent d c (Break s) is made = (c, is, made)
 
 pub waits_more : (ds : List Decoded) (rs : List Answer) → Waits ds rs → (i : ℕ) (d : Decoded) → i < length ds → length rs ≡ i → (a : Answer) → Turn absent (get_or ds i d) a absent → Waits ds (rs ++ a ∷ [])
 waits_more ds rs h i d low e a t = turns_next absent absent absent ds rs (get_or ds i d) a (next_low ds rs i low e) (next_is ds rs i d low e) h t

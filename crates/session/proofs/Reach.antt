@@ -28,7 +28,7 @@ use Rattle.states.specs.History.{Numbers, Event, Reached, plan_in, samples_in}
 use Rattle.right.proofs.Steps.{reached_tied}
 use Rattle.right.proofs.Tied.{Held, end_of, held_last, Tied}
 use Rattle.window.proofs.Searching.{found_first}
-use Rattle.command.proofs.Spelled.{some_same, none_some}
+use Rattle.std.proofs.lemmas.Option.{same_Some, none-some}
 use Rattle.session.specs.Session.{Answer}
 use Rattle.session.specs.Typed.{Reachable}
 
@@ -37,7 +37,7 @@ abbrev Met : Refusal → Type 0
 Met x = Reachable (Err x)
 
 met_same : (x y : Refusal) → Met x → ◌≡◌ {A = Option Refusal} (Some x) (Some y) → Met y
-met_same x y h e = subst Met (some_same e) h
+met_same x y h e = subst Met (same_Some _ _ e) h
 
 -- where the test holds the refusal is the later one
 unless_true : (b : Bool) (x y : Refusal) (later : Option Refusal) → b ≡ true → unless b x later ≡ Some y → later ≡ Some y
@@ -84,7 +84,7 @@ module _ {N : Type 0} (m : Meaning N) (ok : Sound m) where
   refused_met k size q1 q2 y e = size-met (sized k size) e
     where
       twiddle-met : (b : Bool) → cond b None (Some TwiddleScale) ≡ Some y → Met y
-      twiddle-met true e = absurd (none_some e)
+      twiddle-met true e = absurd (none-some _ e)
       twiddle-met false e = met_same TwiddleScale y tt e
 
       sample-met : (b : Bool) → cond b (cond (within 32768 q2) None (Some TwiddleScale)) (Some SampleScale) ≡ Some y → Met y
@@ -100,7 +100,7 @@ module _ {N : Type 0} (m : Meaning N) (ok : Sound m) where
     where
       go : (b : Bool) → cond b (cond (within 32767 q1) (cond (within 32768 q2) None (Some TwiddleScale)) (Some SampleScale)) (Some Size) ≡ None → b ≡ true
       go true e = refl
-      go false e = absurd (none_some (sym e))
+      go false e = absurd (none-some _ (sym e))
 
   plan_met : (bl : Pairs N) → length bl ≡ 256 → (k : Method) (size q1 q2 : ℕ) (y : Refusal) → plan_declined m bl k size q1 q2 ≡ Some y → Met y
   plan_met bl long k size q1 q2 y e = go (refused k size q1 q2) refl e
@@ -110,7 +110,7 @@ module _ {N : Type 0} (m : Meaning N) (ok : Sound m) where
       go None is e =
           let small : size ≤ 256 = at_most_256 k size (refused_sized k size q1 q2 is) in
           let fits : leb size (length bl) ≡ true = ap (leb size) long ∙ le-leb size 256 small in
-          unless_met (leb (least_modulus_of (figures_of k size q1 q2)) m.modulus) Narrow y None tt (λ e. absurd (none_some e)) (unless_true (leb size (length bl)) Block y (unless (leb (least_modulus_of (figures_of k size q1 q2)) m.modulus) Narrow None) fits e)
+          unless_met (leb (least_modulus_of (figures_of k size q1 q2)) m.modulus) Narrow y None tt (λ e. absurd (none-some _ e)) (unless_true (leb size (length bl)) Block y (unless (leb (least_modulus_of (figures_of k size q1 q2)) m.modulus) Narrow None) fits e)
 
   same_modulus : (kept : Kept) → kept.modulus ≡ m.modulus → eqb m.modulus kept.modulus ≡ true
   same_modulus kept e = eq-eqb m.modulus kept.modulus (sym e)
@@ -119,26 +119,26 @@ module _ {N : Type 0} (m : Meaning N) (ok : Sound m) where
   none_malformed bl n formed = found_first m bl n None formed
 
   line_none : (k : Method) (bl : Pairs N) (size i : ℕ) (y : Refusal) → i < size → ((j : ℕ) → j < size → is_well_formed_at m bl j ≡ true) → line_malformed m k bl size i ≡ Some y → Met y
-  line_none Direct bl size i y low formed e = absurd (none_some (sym (ap malformed (none_malformed bl size formed)) ∙ e))
-  line_none Radix2 bl size i y low formed e = absurd (none_some (unless_true (is_well_formed_at m bl i) (Malformed i) y None (formed i low) e))
-  line_none Radix4 bl size i y low formed e = absurd (none_some (unless_true (is_well_formed_at m bl i) (Malformed i) y None (formed i low) e))
+  line_none Direct bl size i y low formed e = absurd (none-some _ (sym (ap malformed (none_malformed bl size formed)) ∙ e))
+  line_none Radix2 bl size i y low formed e = absurd (none-some _ (unless_true (is_well_formed_at m bl i) (Malformed i) y None (formed i low) e))
+  line_none Radix4 bl size i y low formed e = absurd (none-some _ (unless_true (is_well_formed_at m bl i) (Malformed i) y None (formed i low) e))
 
   declined_met : (st : State) (bl : Pairs N) → Fit st bl → (c : Call N) → Brings c → (y : Refusal) → declined m st bl c ≡ Some y → Met y
   declined_met st bl h (PlanCall k size q1 q2) b y e = plan_met bl h.long k size q1 q2 y e
   declined_met Idle bl h (LoadCall n x) b y e = met_same Moment y tt e
   declined_met (Filling kept count) bl h (LoadCall n x) b y e =
       unless_met (leb n count && ltb n kept.plan.size) Place y (unless (eqb m.modulus kept.modulus) Strange (unless (well_formed m x) (Malformed n) None)) tt
-      (λ e. absurd (none_some (unless_true (well_formed m x) (Malformed n) y None b (unless_true (eqb m.modulus kept.modulus) Strange y (unless (well_formed m x) (Malformed n) None) (same_modulus kept h.keeps) e)))) e
+      (λ e. absurd (none-some _ (unless_true (well_formed m x) (Malformed n) y None b (unless_true (eqb m.modulus kept.modulus) Strange y (unless (well_formed m x) (Malformed n) None) (same_modulus kept h.keeps) e)))) e
   declined_met (Running kept t) bl h (LoadCall n x) b y e = met_same Moment y tt e
   declined_met (Finished kept) bl h (LoadCall n x) b y e = met_same Moment y tt e
   declined_met Idle bl h BeginCall b y e = met_same Moment y tt e
-  declined_met (Filling kept count) bl h BeginCall b y e = unless_met (leb kept.plan.size count) Short y None tt (λ e. absurd (none_some e)) e
+  declined_met (Filling kept count) bl h BeginCall b y e = unless_met (leb kept.plan.size count) Short y None tt (λ e. absurd (none-some _ e)) e
   declined_met (Running kept t) bl h BeginCall b y e = met_same Moment y tt e
   declined_met (Finished kept) bl h BeginCall b y e = met_same Moment y tt e
   declined_met Idle bl h AdvanceCall b y e = met_same Moment y tt e
   declined_met (Filling kept count) bl h AdvanceCall b y e = met_same Moment y tt e
   declined_met (Running kept t) bl h AdvanceCall b y e =
-      absurd (none_some (sym (ap malformed (none_malformed bl kept.plan.size h.formed)) ∙ unless_true (eqb m.modulus kept.modulus) Strange y (malformed (first_malformed_place m bl kept.plan.size)) (same_modulus kept h.keeps) e))
+      absurd (none-some _ (sym (ap malformed (none_malformed bl kept.plan.size h.formed)) ∙ unless_true (eqb m.modulus kept.modulus) Strange y (malformed (first_malformed_place m bl kept.plan.size)) (same_modulus kept h.keeps) e))
   declined_met (Finished kept) bl h AdvanceCall b y e = met_same Moment y tt e
   declined_met Idle bl h (LineCall k) b y e = met_same Moment y tt e
   declined_met (Filling kept count) bl h (LineCall k) b y e = met_same Moment y tt e
@@ -149,9 +149,9 @@ module _ {N : Type 0} (m : Meaning N) (ok : Sound m) where
       line-met true is e = line_none kept.plan.method bl kept.plan.size k y (ltb-true k kept.plan.size is) h.formed (unless_true (eqb m.modulus kept.modulus) Strange y (line_malformed m kept.plan.method bl kept.plan.size k) (same_modulus kept h.keeps) e)
       line-met false is e = met_same Place y tt e
   declined_met Idle bl h RestartCall b y e = met_same Moment y tt e
-  declined_met (Filling kept count) bl h RestartCall b y e = absurd (none_some e)
-  declined_met (Running kept t) bl h RestartCall b y e = absurd (none_some e)
-  declined_met (Finished kept) bl h RestartCall b y e = absurd (none_some e)
+  declined_met (Filling kept count) bl h RestartCall b y e = absurd (none-some _ e)
+  declined_met (Running kept t) bl h RestartCall b y e = absurd (none-some _ e)
+  declined_met (Finished kept) bl h RestartCall b y e = absurd (none-some _ e)
 
   -- ---- accepted calls
 

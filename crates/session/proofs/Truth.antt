@@ -25,7 +25,7 @@ use Rattle.runs.proofs.Running.{right_answer}
 use Rattle.runs.proofs.Guards.{sealed_within}
 use Rattle.command.specs.declared.kinds.Command.{Command}
 use Rattle.command.specs.declared.kinds.Command.TheVariants.{Choose, Plan, Load, Begin, Advance, Line, Restart}
-use Rattle.command.proofs.Spelled.{some_same, none_some}
+use Rattle.std.proofs.lemmas.Option.{same_Some, none-some}
 use Rattle.session.specs.Session.{Decoded, Answer, Does, LoadsSealed, LoadsWithin, limit_in}
 use Rattle.session.specs.Typed.{Typed, plan_typed_after, plan_typed, samples_typed_after, samples_typed, RightTyped, RightAnswer, Reachable}
 use Rattle.session.proofs.Reach.{Fit, Brings, step_fit}
@@ -67,7 +67,7 @@ module _ {N : Type 0} (m : Meaning N) (ok : Sound m) where
   -- a new window, where what was typed leaves no plan and no sample in force
   pub holds_new : (past : List Typed) (bl : Pairs N) → length bl ≡ 256 → plan_typed past ≡ None → ((i : ℕ) → samples_typed past i ≡ None) → Holds past Idle bl
   holds_new past bl long plan samples =
-      record { start = bl; events = []; reached = (refl, refl); plan = sym plan; samples = λ i. sym (samples i); within = λ i z e. absurd (none_some (sym (samples i) ∙ e)); fit = record { long = long; keeps = tt; formed = tt } }
+      record { start = bl; events = []; reached = (refl, refl); plan = sym plan; samples = λ i. sym (samples i); within = λ i z e. absurd (none-some _ (sym (samples i) ∙ e)); fit = record { long = long; keeps = tt; formed = tt } }
 
   -- a line that is declined changes nothing
   pub holds_declined : (d : Decoded) (x : Refusal) (past : List Typed) (st : State) (bl : Pairs N) → Holds past st bl → Holds (more d (Err x) past) st bl
@@ -118,7 +118,7 @@ module _ {N : Type 0} (m : Meaning N) (ok : Sound m) where
 
     leaves_plan : (k : Method) (size q1 q2 : ℕ) (a : Answer) (st' : State) (bl' : Pairs N) → Step m st bl (PlanCall k size q1 q2) a st' bl' → Leaves past (Ok (Plan k size q1 q2)) a st' bl'
     leaves_plan k size q1 q2 (Err x) st' bl' step = (leaves_kept (PlanCall k size q1 q2) tt (Ok (Plan k size q1 q2)) (Err x) st' bl' step (λ p. refl) (λ p. refl) (λ f i. refl) (λ f i. refl), tt, (fit_call (PlanCall k size q1 q2) tt (Err x) st' bl' step).1)
-    leaves_plan k size q1 q2 (Ok None) st' bl' step = (holds_more past st bl h (PlanCall k size q1 q2) (Ok (Plan k size q1 q2)) (Ok None) st' bl' step (λ p. refl) (λ f g e i. refl) (λ i z e. absurd (none_some e)) (fit_call (PlanCall k size q1 q2) tt (Ok None) st' bl' step).0, tt, (fit_call (PlanCall k size q1 q2) tt (Ok None) st' bl' step).1)
+    leaves_plan k size q1 q2 (Ok None) st' bl' step = (holds_more past st bl h (PlanCall k size q1 q2) (Ok (Plan k size q1 q2)) (Ok None) st' bl' step (λ p. refl) (λ f g e i. refl) (λ i z e. absurd (none-some _ e)) (fit_call (PlanCall k size q1 q2) tt (Ok None) st' bl' step).0, tt, (fit_call (PlanCall k size q1 q2) tt (Ok None) st' bl' step).1)
     leaves_plan k size q1 q2 (Ok (Some l)) st' bl' step = absurd (right_call (PlanCall k size q1 q2) (Ok (Some l)) st' bl' step)
 
     leaves_begin : (a : Answer) (st' : State) (bl' : Pairs N) → Step m st bl BeginCall a st' bl' → Leaves past (Ok Begin) a st' bl'
@@ -142,7 +142,7 @@ module _ {N : Type 0} (m : Meaning N) (ok : Sound m) where
 
     leaves_restart : (a : Answer) (st' : State) (bl' : Pairs N) → Step m st bl RestartCall a st' bl' → Leaves past (Ok Restart) a st' bl'
     leaves_restart (Err x) st' bl' step = (leaves_kept RestartCall tt (Ok Restart) (Err x) st' bl' step (λ p. refl) (λ p. refl) (λ f i. refl) (λ f i. refl), tt, (fit_call RestartCall tt (Err x) st' bl' step).1)
-    leaves_restart (Ok None) st' bl' step = (holds_more past st bl h RestartCall (Ok Restart) (Ok None) st' bl' step (λ p. refl) (λ f g e i. refl) (λ i z e. absurd (none_some e)) (fit_call RestartCall tt (Ok None) st' bl' step).0, tt, (fit_call RestartCall tt (Ok None) st' bl' step).1)
+    leaves_restart (Ok None) st' bl' step = (holds_more past st bl h RestartCall (Ok Restart) (Ok None) st' bl' step (λ p. refl) (λ f g e i. refl) (λ i z e. absurd (none-some _ e)) (fit_call RestartCall tt (Ok None) st' bl' step).0, tt, (fit_call RestartCall tt (Ok None) st' bl' step).1)
     leaves_restart (Ok (Some l)) st' bl' step = absurd (right_call RestartCall (Ok (Some l)) st' bl' step)
 
     -- a sealed sample is loaded: its pair means the sample as typed
@@ -150,7 +150,7 @@ module _ {N : Type 0} (m : Meaning N) (ok : Sound m) where
     same_load n z x e f g same i = ap (λ (y : Complex). cond (eqb i n) (Some y) (f i)) e ∙ ap (λ (y : Option Complex). cond (eqb i n) (Some z) y) (same i)
 
     within_load : (b : Bool) (y z : Complex) (before : Option Complex) → InScale (plan_typed past) z → (before ≡ Some y → InScale (plan_typed past) y) → cond b (Some z) before ≡ Some y → InScale (plan_typed past) y
-    within_load true y z before this others e = subst (λ (v : Complex). InScale (plan_typed past) v) (some_same e) this
+    within_load true y z before this others e = subst (λ (v : Complex). InScale (plan_typed past) v) (same_Some _ _ e) this
     within_load false y z before this others e = others e
 
     leaves_sealed : (n : ℕ) (z : Complex) (words : ℕ × ℕ) (x : N × N) → well_formed m x ≡ true → means_pair m x ≡ z → InScale (plan_typed past) z → (a : Answer) (st' : State) (bl' : Pairs N) → Step m st bl (LoadCall n x) a st' bl' → Leaves past (Ok (Load n z words)) a st' bl'

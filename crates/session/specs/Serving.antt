@@ -1,5 +1,7 @@
 -- What the parts of the session promise one another.
 use Rattle.std.specs.Prelude.{◌≡◌, ℕ, ◌<◌, ◌≤◌, true, List, length, take, Some, None, Ok, Err, Option, Result}
+use Rattle.std.specs.declared.ops.ControlFlow.{ControlFlow}
+use Rattle.std.specs.declared.ops.ControlFlow.TheVariants.{Continue, Break}
 use Rattle.refusal.specs.declared.kinds.Refusal.{Refusal}
 use Rattle.refusal.specs.declared.kinds.Refusal.TheVariants.{Modulus, Garbled}
 use Rattle.scheme.specs.Meaning.{Meaning}
@@ -13,8 +15,6 @@ use Rattle.system.specs.Making.{Accepted}
 use Rattle.integers.specs.Modulus.{is_modulus}
 use Rattle.session.specs.declared.schemes.Chosen.{Chosen}
 use Rattle.session.specs.declared.schemes.Chosen.TheVariants.{Plain, System, Split}
-use Rattle.session.specs.declared.turn.Turned.{Turned}
-use Rattle.session.specs.declared.turn.Turned.TheVariants.{Answered, Replaced}
 use Rattle.session.specs.Session.{Decoded, Answer, Console, absent, plain, system, shared, LawfulChoice, Does, Turn, Turns}
 
 -- the scheme is the one that was chosen
@@ -45,10 +45,15 @@ Keeps m st bl (Ok Advance) a st' bl' = Does m st bl Advance a st' bl'
 Keeps m st bl (Ok (Line k)) a st' bl' = Does m st bl (Line k) a st' bl'
 Keeps m st bl (Ok Restart) a st' bl' = Does m st bl Restart a st' bl'
 
+-- what a choice comes to: the answer that declines it, or the scheme
+abbrev pub Choosing : Choice → ControlFlow Chosen Answer → Type 0
+Choosing c (Continue a) = (LawfulChoice c → ⊥) × (a ≡ Err Modulus)
+Choosing c (Break s) = Makes c s
+
 -- what one line comes to: an answer, or another scheme that was chosen
-abbrev pub Turning : {N : Type 0} → Meaning N → State → Pairs N → Decoded → Turned → State → Pairs N → Type 0
-Turning m st bl d (Answered a) st' bl' = Keeps m st bl d a st' bl'
-Turning m st bl d (Replaced s) st' bl' = (c : Choice) × (d ≡ Ok (Choose c)) × Makes c s
+abbrev pub Turning : {N : Type 0} → Meaning N → State → Pairs N → Decoded → ControlFlow Chosen Answer → State → Pairs N → Type 0
+Turning m st bl d (Continue a) st' bl' = Keeps m st bl d a st' bl'
+Turning m st bl d (Break s) st' bl' = (c : Choice) × (d ≡ Ok (Choose c)) × Makes c s
 
 -- windows under m are held by the console: lines that keep the window are turns of the console
 abbrev pub Embeds : {N : Type 0} → Meaning N → (State → Pairs N → Console) → Type 0
@@ -83,6 +88,6 @@ abbrev pub ServedUnder : Chosen → List Decoded → List Answer → List Answer
 ServedUnder s ds before after next = (w : Console) → ReadyFor w ds before s → Served w ds after next
 
 -- what a line comes to where there is no window
-abbrev pub TurningAbsent : Decoded → Turned → Type 0
-TurningAbsent d (Answered a) = Turn absent d a absent
-TurningAbsent d (Replaced s) = (c : Choice) × (d ≡ Ok (Choose c)) × Makes c s
+abbrev pub TurningAbsent : Decoded → ControlFlow Chosen Answer → Type 0
+TurningAbsent d (Continue a) = Turn absent d a absent
+TurningAbsent d (Break s) = (c : Choice) × (d ≡ Ok (Choose c)) × Makes c s

@@ -5,9 +5,7 @@ mod making;
 mod replies;
 mod schemes;
 mod serving;
-mod turn;
 mod turning;
 
 pub use replies::{LIMIT, answer_lines, only_choices_replace_windows, reply};
 pub use schemes::Chosen;
-pub use turn::Turned;

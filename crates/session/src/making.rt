@@ -8,25 +8,20 @@ use refusal::Refusal;
 use system::System;
 
 // The chosen scheme. Refuses with Modulus where its moduli break its rule, and with nothing else.
-pub(crate) fn make(choice: Choice) -> Result<Chosen, Refusal>
-    ensures { MakesOr choice result }
-{
-    match choice {
-        Choice::Plain { modulus } => match Plain::new(modulus) {
-            Ok(plain) => Ok(Chosen::Plain(plain)),
-            Err(refusal) => Err(refusal),
-        },
-        Choice::System {
-            first,
-            second,
-            third,
-        } => match System::new(first, second, third) {
-            Ok(system) => Ok(Chosen::System(system)),
-            Err(refusal) => Err(refusal),
-        },
-        Choice::Split { modulus } => match Plain::new(modulus) {
-            Ok(plain) => Ok(Chosen::Split(plain)),
-            Err(refusal) => Err(refusal),
-        },
+impl TryFrom<Choice> for Chosen {
+    type Error = Refusal;
+
+    ghost try_from_gives = { MakesOr };
+
+    fn try_from(choice: Choice) -> Result<Chosen, Refusal> {
+        match choice {
+            Choice::Plain { modulus } => Plain::new(modulus).map(Chosen::Plain),
+            Choice::System {
+                first,
+                second,
+                third,
+            } => System::new(first, second, third).map(Chosen::System),
+            Choice::Split { modulus } => Plain::new(modulus).map(Chosen::Split),
+        }
     }
 }

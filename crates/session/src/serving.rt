@@ -1,18 +1,17 @@
 // Serving the lines of a session, window by window.
 ghost use Rattle.std.specs.Prelude.{◌≡◌, ◌≤◌, [], length, IfOk, vec_len};
 ghost use Rattle.session.specs.Session.{absent};
-ghost use Rattle.session.specs.Serving.{TurningAbsent, Served, ServedFrom, ServedUnder, Counted};
+ghost use Rattle.session.specs.Serving.{Served, ServedFrom, ServedUnder, Counted};
 
-use crate::making::make;
 use crate::schemes::Chosen;
-use crate::turn::Turned;
-use crate::turning::turn;
+use crate::turning::{turn, turn_absent};
 use command::Command;
 use refusal::Refusal;
 use scheme::Scheme;
 use split::Split;
 use states::Answer;
 use std::alloc::{AllocError, Global};
+use std::ops::ControlFlow;
 use window::Window;
 
 // Serves the lines that have no answer yet on a new window over the block, until one chooses another scheme, which is handed back.
@@ -30,8 +29,8 @@ fn serve<S: Scheme>(
     let mut window = Window::new(block);
     for at in answers.len()..lines.len() {
         match turn(&mut window, s, lines[at]) {
-            Turned::Answered(answer) => answers.push(answer)?,
-            Turned::Replaced(scheme) => {
+            ControlFlow::Continue(answer) => answers.push(answer)?,
+            ControlFlow::Break(scheme) => {
                 answers.push(Ok(None))?;
                 return Ok(Some(scheme));
             }
@@ -46,11 +45,7 @@ fn new_block<S: Scheme>(s: &mut S, heap: Global) -> Result<Vec<(S::Number, S::Nu
     ensures frame { S.meaning s.new ≡ S.meaning s.old }
 {
     let zero = s.zero();
-    let mut block = Vec::new(heap);
-    for _ in 0..256usize {
-        block.push((zero, zero))?;
-    }
-    Ok(block)
+    vec![in heap; (zero, zero); 256]
 }
 
 // Serves lines on a new window over a new block.
@@ -80,32 +75,9 @@ pub(crate) fn serve_chosen(
     ensures counted { IfOk result (λ next. Counted (length lines.now) (vec_len answers.old) (vec_len answers.new) next) }
 {
     match scheme {
-        Chosen::Plain(plain) => {
-            let mut s = plain;
-            serve_new(&mut s, lines, answers, heap)
-        }
-        Chosen::System(system) => {
-            let mut s = system;
-            serve_new(&mut s, lines, answers, heap)
-        }
-        Chosen::Split(plain) => {
-            let mut s = Split::new(plain);
-            serve_new(&mut s, lines, answers, heap)
-        }
-    }
-}
-
-// One line where there is no window yet: a scheme may be chosen, any other command is declined with Moment.
-fn turn_absent(line: Result<Command, Refusal>) -> Turned
-    ensures { TurningAbsent line result }
-{
-    match line {
-        Err(_) => Turned::Answered(Err(Refusal::Garbled)),
-        Ok(Command::Choose(choice)) => match make(choice) {
-            Ok(scheme) => Turned::Replaced(scheme),
-            Err(refusal) => Turned::Answered(Err(refusal)),
-        },
-        Ok(_) => Turned::Answered(Err(Refusal::Moment)),
+        Chosen::Plain(mut plain) => serve_new(&mut plain, lines, answers, heap),
+        Chosen::System(mut system) => serve_new(&mut system, lines, answers, heap),
+        Chosen::Split(plain) => serve_new(&mut Split::new(plain), lines, answers, heap),
     }
 }
 
@@ -120,8 +92,8 @@ pub(crate) fn serve_absent(
 {
     for line in lines {
         match turn_absent(*line) {
-            Turned::Answered(answer) => answers.push(answer)?,
-            Turned::Replaced(scheme) => {
+            ControlFlow::Continue(answer) => answers.push(answer)?,
+            ControlFlow::Break(scheme) => {
                 answers.push(Ok(None))?;
                 return Ok(Some(scheme));
             }

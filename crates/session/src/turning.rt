@@ -1,31 +1,29 @@
 // One line of the console on a window.
 ghost use Rattle.std.specs.Prelude.{◌≡◌};
+ghost use Rattle.window.specs.Answers.{answer_without_line};
 ghost use Rattle.session.specs.Session.{limit_in, LoadsWithin};
-ghost use Rattle.session.specs.Serving.{Turning};
+ghost use Rattle.session.specs.Serving.{Choosing, Turning, TurningAbsent};
 
-use crate::making::make;
 use crate::schemes::Chosen;
-use crate::turn::Turned;
-use command::Command;
+use command::{Choice, Command};
 use integers::Complex;
 use refusal::Refusal;
 use scheme::{Scheme, pairs};
 use states::{Answer, State};
+use std::ops::ControlFlow;
 use window::Window;
 
 // The limit for sample n: the sample scale of the plan in force. Refuses with Moment where the window is not filling, else with Place.
 fn limit_for(state: State, n: usize) -> Result<u64, Refusal>
     ensures { result ≡ limit_in state n }
 {
-    match state {
-        State::Filling { kept, count } => {
-            if n > count || n >= kept.plan.size() {
-                return Err(Refusal::Place);
-            }
-            Ok(u64::from(kept.plan.sample_scale()))
-        }
-        _ => Err(Refusal::Moment),
+    let State::Filling { kept, count } = state else {
+        return Err(Refusal::Moment);
+    };
+    if n > count || n >= kept.plan.size() {
+        return Err(Refusal::Place);
     }
+    Ok(u64::from(kept.plan.sample_scale()))
 }
 
 // Seals a sample under the limit and loads it.
@@ -35,8 +33,8 @@ fn load<S: Scheme>(
     n: usize,
     sample: Complex,
     words: (u64, u64),
-) -> Answer
-    ensures loads { LoadsWithin (S.meaning s.old) window.old.state window.old.block.now n sample words (limit_in window.old.state n) result window.new.state window.new.block.now }
+) -> Result<(), Refusal>
+    ensures loads { LoadsWithin (S.meaning s.old) window.old.state window.old.block.now n sample words (limit_in window.old.state n) (answer_without_line result) window.new.state window.new.block.now }
     ensures frame { S.meaning s.new ≡ S.meaning s.old }
 {
     let limit = limit_for(window.state(), n)?;
@@ -44,21 +42,28 @@ fn load<S: Scheme>(
     window.load(s, n, pair)
 }
 
-// One line: a command on the window, or the choice of another scheme.
+// The choice of a scheme: the scheme, or the answer that declines it.
+fn choose(choice: Choice) -> ControlFlow<Chosen, Answer>
+    ensures { Choosing choice result }
+{
+    match Chosen::try_from(choice) {
+        Ok(scheme) => ControlFlow::Break(scheme),
+        Err(refusal) => ControlFlow::Continue(Err(refusal)),
+    }
+}
+
+// One line: a command on the window is answered, another scheme that is chosen breaks off.
 pub(crate) fn turn<S: Scheme>(
     window: &mut Window<'_, S>,
     s: &mut S,
     line: Result<Command, Refusal>,
-) -> Turned
+) -> ControlFlow<Chosen, Answer>
     ensures turning { Turning (S.meaning s.old) window.old.state window.old.block.now line result window.new.state window.new.block.now }
     ensures frame { S.meaning s.new ≡ S.meaning s.old }
 {
     match line {
-        Err(_) => Turned::Answered(Err(Refusal::Garbled)),
-        Ok(Command::Choose(choice)) => match make(choice) {
-            Ok(scheme) => Turned::Replaced(scheme),
-            Err(refusal) => Turned::Answered(Err(refusal)),
-        },
+        Err(_) => ControlFlow::Continue(Err(Refusal::Garbled)),
+        Ok(Command::Choose(choice)) => choose(choice),
         Ok(
             Command::Plan {
                 method,
@@ -66,13 +71,28 @@ pub(crate) fn turn<S: Scheme>(
                 sample_scale,
                 twiddle_scale,
             },
-        ) => Turned::Answered(window.plan(s, method, size, sample_scale, twiddle_scale)),
+        ) => ControlFlow::Continue(
+            window
+                .plan(s, method, size, sample_scale, twiddle_scale)
+                .map(|()| None),
+        ),
         Ok(Command::Load { n, sample, words }) => {
-            Turned::Answered(load(window, s, n, sample, words))
+            ControlFlow::Continue(load(window, s, n, sample, words).map(|()| None))
         }
-        Ok(Command::Begin) => Turned::Answered(window.begin()),
-        Ok(Command::Advance) => Turned::Answered(window.advance(s)),
-        Ok(Command::Line { k }) => Turned::Answered(window.line(s, k)),
-        Ok(Command::Restart) => Turned::Answered(window.restart()),
+        Ok(Command::Begin) => ControlFlow::Continue(window.begin().map(|()| None)),
+        Ok(Command::Advance) => ControlFlow::Continue(window.advance(s).map(|()| None)),
+        Ok(Command::Line { k }) => ControlFlow::Continue(window.line(s, k).map(Some)),
+        Ok(Command::Restart) => ControlFlow::Continue(window.restart().map(|()| None)),
+    }
+}
+
+// One line where there is no window yet: a scheme may be chosen, any other command is declined with Moment.
+pub(crate) fn turn_absent(line: Result<Command, Refusal>) -> ControlFlow<Chosen, Answer>
+    ensures { TurningAbsent line result }
+{
+    match line {
+        Err(_) => ControlFlow::Continue(Err(Refusal::Garbled)),
+        Ok(Command::Choose(choice)) => choose(choice),
+        Ok(_) => ControlFlow::Continue(Err(Refusal::Moment)),
     }
 }

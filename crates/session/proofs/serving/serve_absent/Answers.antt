@@ -4,18 +4,18 @@ use Rattle.session.specs.Serving.{Served}
 use Rattle.session.proofs.Phases.{waits_more, waits_chosen, waits_all}
 use Rattle.session.proofs.serving.serve_absent.Goals as goal
 
-pub returns-in-Replaced : goal.returns-in-Replaced
-returns-in-Replaced c =
+pub returns-in-Break : goal.returns-in-Break
+returns-in-Break c =
     let long : length (vec_items c.loop-line.answers) ≡ c.loop-line.line-index = sym c.loop-line.answers.ok.0 ∙ c.loop-line.invariant.1 in
-    let served = waits_chosen c.args.lines.now (vec_items c.loop-line.answers) c.loop-line.invariant.0 c.loop-line.line-index _ c.loop-line-test.true long c.in-Replaced.scheme c.in-Replaced.ensures in
-    let items : vec_items c.push-in-Replaced.new.self ≡ vec_items c.loop-line.answers ++ Ok None ∷ [] = c.in_ok-push-in-Replaced.ensures.items in
-    record { served = subst (λ (rs : List Answer). Served absent c.args.lines.now rs (Some c.in-Replaced.scheme)) (sym items) served; counted = search rules }
+    let served = waits_chosen c.args.lines.now (vec_items c.loop-line.answers) c.loop-line.invariant.0 c.loop-line.line-index _ c.loop-line-test.true long c.in-Break.scheme c.in-Break.ensures in
+    let items : vec_items c.push-in-Break.new.self ≡ vec_items c.loop-line.answers ++ Ok None ∷ [] = c.in_ok-push-in-Break.ensures.items in
+    record { served = subst (λ (rs : List Answer). Served absent c.args.lines.now rs (Some c.in-Break.scheme)) (sym items) served; counted = search rules }
 
 pub loop-line-preserved : goal.loop-line-preserved
 loop-line-preserved c =
     let long : length (vec_items c.loop-line.answers) ≡ c.loop-line.line-index = sym c.loop-line.answers.ok.0 ∙ c.loop-line.invariant.1 in
-    let more = waits_more c.args.lines.now (vec_items c.loop-line.answers) c.loop-line.invariant.0 c.loop-line.line-index _ c.loop-line-test.true long c.in-Answered.answer c.in-Answered.ensures in
-    (rw c.in_ok-push-in-Answered.ensures.items more, search rules)
+    let more = waits_more c.args.lines.now (vec_items c.loop-line.answers) c.loop-line.invariant.0 c.loop-line.line-index _ c.loop-line-test.true long c.in-Continue.answer c.in-Continue.ensures in
+    (rw c.in_ok-push-in-Continue.ensures.items more, search rules)
 
 pub returns : goal.returns
 returns c =

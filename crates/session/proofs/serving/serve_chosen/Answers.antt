@@ -9,4 +9,4 @@ pub returns-in-System : goal.returns-in-System
 returns-in-System c = record { served = under_system c.args.scheme c.in-System.system c.in-System.is c.args.lines.now (vec_items c.args.answers.now) (vec_items c.serve_new-in-System.new.answers) c.serve_new-in-System.result c.serve_new-in-System.ensures.served; counted = c.serve_new-in-System.ensures.counted }
 
 pub returns-in-Split : goal.returns-in-Split
-returns-in-Split c = record { served = under_split c.args.scheme c.in-Split.plain c.new-s.result.below c.in-Split.is c.new-s.ensures c.args.lines.now (vec_items c.args.answers.now) (vec_items c.serve_new-in-Split.new.answers) c.serve_new-in-Split.result c.serve_new-in-Split.ensures.served; counted = c.serve_new-in-Split.ensures.counted }
+returns-in-Split c = record { served = under_split c.args.scheme c.in-Split.plain c.new.result.below c.in-Split.is c.new.ensures c.args.lines.now (vec_items c.args.answers.now) (vec_items c.serve_new-in-Split.new.answers) c.serve_new-in-Split.result c.serve_new-in-Split.ensures.served; counted = c.serve_new-in-Split.ensures.counted }
