@@ -1,3 +1,4 @@
+pub mod Answering
 pub mod Consoles
 pub mod Ending
 pub mod Phases

@@ -1,5 +1,5 @@
 -- What the parts of the session promise one another.
-use Rattle.std.specs.Prelude.{◌≡◌, ℕ, ◌<◌, ◌≤◌, true, List, length, take, Some, None, Ok, Err, Option, Result}
+use Rattle.std.specs.Prelude.{◌≡◌, ℕ, ◌<◌, true, List, [], ◌∷◌, ◌++◌, ◌⊎◌, length, take, drop, Some, None, Ok, Err, Option, Result}
 use Rattle.std.specs.declared.ops.ControlFlow.{ControlFlow}
 use Rattle.std.specs.declared.ops.ControlFlow.TheVariants.{Continue, Break}
 use Rattle.refusal.specs.declared.kinds.Refusal.{Refusal}
@@ -15,6 +15,7 @@ use Rattle.system.specs.Making.{Accepted}
 use Rattle.integers.specs.Modulus.{is_modulus}
 use Rattle.session.specs.declared.schemes.Chosen.{Chosen}
 use Rattle.session.specs.declared.schemes.Chosen.TheVariants.{Plain, System, Split}
+use Rattle.session.specs.declared.serving.Session.{Session}
 use Rattle.session.specs.Session.{Decoded, Answer, Console, absent, plain, system, shared, LawfulChoice, Does, Turn, Turns}
 
 -- the scheme is the one that was chosen
@@ -74,18 +75,42 @@ abbrev pub Served : Console → List Decoded → List Answer → Option Chosen �
 Served w ds rs None = (v : Console) × Turns w ds rs v
 Served w ds rs (Some s) = ReadyFor w ds rs s
 
--- from a new window on
-abbrev pub ServedFrom : {N : Type 0} → Meaning N → List Decoded → List Answer → List Answer → Option Chosen → Type 0
-ServedFrom {N} m ds before after next = (w : Console) (held : State → Pairs N → Console) → Embeds m held → Ready w ds before held → Served w ds after next
+-- lines are answered one after another, each by its turn, until one chooses another scheme
+abbrev pub Answered : {F : Type 0} → (F → Decoded → ControlFlow Chosen Answer → F → Type 0) → F → List Decoded → List Answer → Option Chosen → Type 0
+Answered step f [] [] next = next ≡ None
+Answered step f [] (a ∷ rs) next = ⊥
+Answered step f (d ∷ ds) [] next = ⊥
+Answered {F} step f (d ∷ ds) (a ∷ rs) next = ((g : F) × step f d (Continue a) g × Answered step g ds rs next) ⊎ ((g : F) × (s : Chosen) × step f d (Break s) g × (a ≡ Ok None) × (rs ≡ []) × (next ≡ Some s))
 
--- where another scheme was chosen there are more answers than before, and no more than lines
-abbrev pub Counted : ℕ → ℕ → ℕ → Option Chosen → Type 0
-Counted lines before after None = Unit {0}
-Counted lines before after (Some s) = (before < after) × (after ≤ lines)
+-- so are those lines of a session that had no answer yet
+pub record AnsweredBy {F : Type 0} (step : F → Decoded → ControlFlow Chosen Answer → F → Type 0) (f : F) (before after : Session) (next : Option Chosen) : Type 0 where
+  pub lines : after.lines.now ≡ before.lines.now
+  pub added : List Answer
+  pub answers : after.answers.items ≡ before.answers.items ++ added
+  pub turns : Answered step f (drop (length before.answers.items) before.lines.now) added next
+
+-- where another scheme was chosen there are more answers than before
+abbrev pub More : ℕ → ℕ → Option Chosen → Type 0
+More before after None = Unit {0}
+More before after (Some s) = before < after
+
+-- from a new window on
+pub record ServedFrom {N : Type 0} (m : Meaning N) (before after : Session) (next : Option Chosen) : Type 0 where
+  pub lines : after.lines.now ≡ before.lines.now
+  pub served : (w : Console) (held : State → Pairs N → Console) → Embeds m held → Ready w before.lines.now before.answers.items held → Served w before.lines.now after.answers.items next
+  pub more : More (length before.answers.items) (length after.answers.items) next
 
 -- from a new window under the scheme on
-abbrev pub ServedUnder : Chosen → List Decoded → List Answer → List Answer → Option Chosen → Type 0
-ServedUnder s ds before after next = (w : Console) → ReadyFor w ds before s → Served w ds after next
+pub record ServedUnder (s : Chosen) (before after : Session) (next : Option Chosen) : Type 0 where
+  pub lines : after.lines.now ≡ before.lines.now
+  pub served : (w : Console) → ReadyFor w before.lines.now before.answers.items s → Served w before.lines.now after.answers.items next
+  pub more : More (length before.answers.items) (length after.answers.items) next
+
+-- from no window on
+pub record ServedAbsent (before after : Session) (next : Option Chosen) : Type 0 where
+  pub lines : after.lines.now ≡ before.lines.now
+  pub served : before.answers.items ≡ [] → Served absent before.lines.now after.answers.items next
+  pub more : More (length before.answers.items) (length after.answers.items) next
 
 -- what a line comes to where there is no window
 abbrev pub TurningAbsent : Decoded → ControlFlow Chosen Answer → Type 0

@@ -4,7 +4,7 @@ ghost use Rattle.secrecy.specs.Secrecy.{SecrecyStands};
 ghost use Rattle.session.specs.Replies.{SessionOf, Replies as RepliesTo};
 ghost use Rattle.session.specs.Steady.{Steady};
 
-use crate::serving::{serve_absent, serve_chosen};
+use crate::serving::Session;
 use command::{Command, decode_all, transcript};
 use refusal::Refusal;
 use states::Answer;
@@ -20,12 +20,12 @@ pub fn answer_lines(
 ) -> Result<Vec<Answer>, AllocError>
     ensures { IfOk result (λ v. SessionOf lines.now v.items) }
 {
-    let mut answers = Vec::new(heap);
-    let mut next = serve_absent(lines, &mut answers)?;
+    let mut session = Session::new(lines, heap);
+    let mut next = session.serve_absent()?;
     while let Some(scheme) = next {
-        next = serve_chosen(scheme, lines, &mut answers, heap)?;
+        next = session.serve_under(scheme, heap)?;
     }
-    Ok(answers)
+    Ok(session.into_answers())
 }
 
 // The text that the console writes for the bytes that it reads: one reply a line; for more bytes than the limit, that it is too long.

@@ -1,7 +1,5 @@
 // Serving the lines of a session, window by window.
 ghost use Rattle.std.specs.Prelude.{◌≡◌, ◌≤◌, [], length, IfOk, vec_len};
-ghost use Rattle.session.specs.Session.{absent};
-ghost use Rattle.session.specs.Serving.{Served, ServedFrom, ServedUnder, Counted};
 
 use crate::schemes::Chosen;
 use crate::turning::{turn, turn_absent};
@@ -14,29 +12,100 @@ use std::alloc::{AllocError, Global};
 use std::ops::ControlFlow;
 use window::Window;
 
-// Serves the lines that have no answer yet on a new window over the block, until one chooses another scheme, which is handed back.
-fn serve<S: Scheme>(
-    s: &mut S,
-    block: &mut [(S::Number, S::Number)],
-    lines: &[Result<Command, Refusal>],
-    answers: &mut Vec<Answer>,
-) -> Result<Option<Chosen>, AllocError>
-    requires long { length block.old ≡ 256 }
-    requires few { vec_len answers.old ≤ length lines.now }
-    ensures served { IfOk result (λ next. ServedFrom (S.meaning s.old) lines.now answers.old.items answers.new.items next) }
-    ensures counted { IfOk result (λ next. Counted (length lines.now) (vec_len answers.old) (vec_len answers.new) next) }
-{
-    let mut window = Window::new(block);
-    for at in answers.len()..lines.len() {
-        match turn(&mut window, s, lines[at]) {
-            ControlFlow::Continue(answer) => answers.push(answer)?,
-            ControlFlow::Break(scheme) => {
-                answers.push(Ok(None))?;
-                return Ok(Some(scheme));
+// The lines of a session and the answers so far, of which there are no more than lines.
+#[derive(Drop)]
+pub(crate) struct Session<'a> {
+    lines: &'a [Result<Command, Refusal>],
+    answers: Vec<Answer>,
+    ghost few: { vec_len answers ≤ length lines.now },
+}
+
+impl<'a> Session<'a> {
+    ghost use Rattle.session.specs.Serving.{AnsweredBy, ServedFrom, ServedUnder, ServedAbsent};
+
+    // No line is answered yet.
+    pub(crate) fn new(lines: &'a [Result<Command, Refusal>], heap: Global) -> Session<'a>
+        ensures lines { result.lines.now ≡ lines.now }
+        ensures none { result.answers.items ≡ [] }
+    {
+        let answers = Vec::new(heap);
+        Session { lines, answers }
+    }
+
+    // The answers.
+    pub(crate) fn into_answers(self) -> Vec<Answer>
+        ensures { result.items ≡ self.entry.answers.items }
+    {
+        self.answers
+    }
+
+    // Answers the lines that have no answer yet, each by its turn, until one chooses another scheme, which is handed back.
+    fn serve_by<F: FnMut(Result<Command, Refusal>) -> ControlFlow<Chosen, Answer>>(
+        &mut self,
+        mut turn: F,
+    ) -> Result<Option<Chosen>, AllocError>
+        requires { F.IsAlwaysCallable turn }
+        ensures { IfOk result (λ next. AnsweredBy (λ f line r g. F.step f line r g) turn self.old self.new next) }
+    {
+        let lines = self.lines;
+        for line in &lines[self.answers.len()..] {
+            match turn(*line) {
+                ControlFlow::Continue(answer) => self.answers.push(answer)?,
+                ControlFlow::Break(scheme) => {
+                    self.answers.push(Ok(None))?;
+                    return Ok(Some(scheme));
+                }
             }
         }
+        Ok(None)
     }
-    Ok(None)
+
+    // Serves lines before the first scheme.
+    pub(crate) fn serve_absent(&mut self) -> Result<Option<Chosen>, AllocError>
+        ensures { IfOk result (λ next. ServedAbsent self.old self.new next) }
+    {
+        self.serve_by(turn_absent)
+    }
+
+    // Serves lines on a new window over the block.
+    fn serve<S: Scheme>(
+        &mut self,
+        s: &mut S,
+        block: &mut [(S::Number, S::Number)],
+    ) -> Result<Option<Chosen>, AllocError>
+        requires { length block.old ≡ 256 }
+        ensures { IfOk result (λ next. ServedFrom (S.meaning s.old) self.old self.new next) }
+    {
+        let mut window = Window::new(block);
+        self.serve_by(|line| turn(&mut window, s, line))
+    }
+
+    // Serves lines on a new window over a new block.
+    fn serve_new<S: Scheme>(
+        &mut self,
+        s: &mut S,
+        heap: Global,
+    ) -> Result<Option<Chosen>, AllocError>
+        ensures { IfOk result (λ next. ServedFrom (S.meaning s.old) self.old self.new next) }
+    {
+        let mut block = new_block(s, heap)?;
+        self.serve(s, block.as_mut_slice())
+    }
+
+    // Serves lines under the chosen scheme.
+    pub(crate) fn serve_under(
+        &mut self,
+        scheme: Chosen,
+        heap: Global,
+    ) -> Result<Option<Chosen>, AllocError>
+        ensures { IfOk result (λ next. ServedUnder scheme self.old self.new next) }
+    {
+        match scheme {
+            Chosen::Plain(mut plain) => self.serve_new(&mut plain, heap),
+            Chosen::System(mut system) => self.serve_new(&mut system, heap),
+            Chosen::Split(plain) => self.serve_new(&mut Split::new(plain), heap),
+        }
+    }
 }
 
 // A block of 256 pairs of zeros.
@@ -46,58 +115,4 @@ fn new_block<S: Scheme>(s: &mut S, heap: Global) -> Result<Vec<(S::Number, S::Nu
 {
     let zero = s.zero();
     vec![in heap; (zero, zero); 256]
-}
-
-// Serves lines on a new window over a new block.
-fn serve_new<S: Scheme>(
-    s: &mut S,
-    lines: &[Result<Command, Refusal>],
-    answers: &mut Vec<Answer>,
-    heap: Global,
-) -> Result<Option<Chosen>, AllocError>
-    requires few { vec_len answers.old ≤ length lines.now }
-    ensures served { IfOk result (λ next. ServedFrom (S.meaning s.old) lines.now answers.old.items answers.new.items next) }
-    ensures counted { IfOk result (λ next. Counted (length lines.now) (vec_len answers.old) (vec_len answers.new) next) }
-{
-    let mut block = new_block(s, heap)?;
-    serve(s, block.as_mut_slice(), lines, answers)
-}
-
-// Serves lines under the chosen scheme.
-pub(crate) fn serve_chosen(
-    scheme: Chosen,
-    lines: &[Result<Command, Refusal>],
-    answers: &mut Vec<Answer>,
-    heap: Global,
-) -> Result<Option<Chosen>, AllocError>
-    requires few { vec_len answers.old ≤ length lines.now }
-    ensures served { IfOk result (λ next. ServedUnder scheme lines.now answers.old.items answers.new.items next) }
-    ensures counted { IfOk result (λ next. Counted (length lines.now) (vec_len answers.old) (vec_len answers.new) next) }
-{
-    match scheme {
-        Chosen::Plain(mut plain) => serve_new(&mut plain, lines, answers, heap),
-        Chosen::System(mut system) => serve_new(&mut system, lines, answers, heap),
-        Chosen::Split(plain) => serve_new(&mut Split::new(plain), lines, answers, heap),
-    }
-}
-
-// Serves the lines before the first scheme.
-pub(crate) fn serve_absent(
-    lines: &[Result<Command, Refusal>],
-    answers: &mut Vec<Answer>,
-) -> Result<Option<Chosen>, AllocError>
-    requires none { answers.old.items ≡ [] }
-    ensures served { IfOk result (λ next. Served absent lines.now answers.new.items next) }
-    ensures counted { IfOk result (λ next. Counted (length lines.now) 0 (vec_len answers.new) next) }
-{
-    for line in lines {
-        match turn_absent(*line) {
-            ControlFlow::Continue(answer) => answers.push(answer)?,
-            ControlFlow::Break(scheme) => {
-                answers.push(Ok(None))?;
-                return Ok(Some(scheme));
-            }
-        }
-    }
-    Ok(None)
 }
