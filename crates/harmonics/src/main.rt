@@ -8,8 +8,10 @@ mod cycle;
 mod sample;
 
 use cards::{MODULUS, print_cards};
-use cycle::{print_cycle, print_unknown};
+use cycle::{WIDE, print_cycle, print_unknown, seal_cycle};
+use plain::Plain;
 use sample::{print_split_sample, print_system_sample};
+use split::Split;
 
 fn main(rt: HostRuntime) -> anyhow::Result<()> {
     print_cards(&rt)?;
@@ -18,8 +20,10 @@ fn main(rt: HostRuntime) -> anyhow::Result<()> {
     print_split_sample(&rt, -57, MODULUS)?;
     print_split_sample(&rt, 270_401, 1)?;
     print_system_sample(&rt, -57)?;
+    let mut s = Split::new(Plain::new(WIDE)?);
+    let sealed = seal_cycle(&mut s, rt.alloc())?;
     println!(rt; "\nOne cycle of a feeder current\n")?;
-    print_cycle(&rt)?;
+    print_cycle(&rt, &mut s, sealed.as_slice())?;
     println!(rt; "\nWhat the houses cannot tell\n")?;
-    print_unknown(&rt)
+    print_unknown(&rt, &mut s, sealed.as_slice())
 }

@@ -3,49 +3,24 @@ use crate::example::{METHOD, Pair, SAMPLE_SCALE, SIZE, STAGES, TWIDDLE_SCALE};
 use crate::meter::{SHARE_COLUMNS, Shares};
 use crate::session::{Request, empty_block, transform};
 use plain::Plain;
-use refusal::Refusal;
+use report::Answered;
 use scheme::Scheme;
 use split::Split;
-use states::Answer;
-use std::io;
 use window::Window;
-
-// A call and its answer.
-fn print_answer(rt: &impl Print, call: &str, answer: Answer) -> io::Result<()> {
-    match answer {
-        Ok(_) => println!(rt; "{call}: ok"),
-        Err(refusal) => println!(rt; "{call}: no, {refusal}"),
-    }
-}
-
-// Loads every sample; how many were accepted.
-fn load_all<S: Scheme>(
-    s: &mut S,
-    window: &mut Window<'_, S>,
-    loaded: &[(S::Number, S::Number)],
-) -> usize {
-    let mut accepted = 0usize;
-    for (n, pair) in loaded.iter().enumerate() {
-        if window.load(s, n, *pair).is_ok() {
-            accepted = accepted.wrapping_add(1);
-        }
-    }
-    accepted
-}
 
 // The stages, with a line that comes too early and one stage too many.
 fn print_stages<S: Scheme>(
     rt: &impl Print,
     s: &mut S,
     window: &mut Window<'_, S>,
-) -> io::Result<()> {
-    print_answer(rt, "begin", window.begin())?;
-    print_answer(rt, "line 5", window.line(s, 5))?;
-    for _ in 0..STAGES {
-        print_answer(rt, "advance", window.advance(s))?;
+) -> anyhow::Result<()> {
+    rt.println(Answered("begin", window.begin()))?;
+    rt.println(Answered("line 5", window.line(s, 5).map(|_| ())))?;
+    for _ in 0..STAGES + 1 {
+        rt.println(Answered("advance", window.advance(s)))?;
     }
-    print_answer(rt, "advance", window.advance(s))?;
-    print_answer(rt, "line 64", window.line(s, 64))
+    rt.println(Answered("line 64", window.line(s, 64).map(|_| ())))?;
+    Ok(())
 }
 
 // The window, call by call.
@@ -57,17 +32,19 @@ pub(crate) fn print_calls<S: Scheme>(
     println!(rt; "\nThe two houses: the window, call by call\n")?;
     let mut block = empty_block(rt.alloc(), s)?;
     let mut window = Window::new(block.as_mut_slice());
-    print_answer(rt, "begin", window.begin())?;
+    rt.println(Answered("begin", window.begin()))?;
     let answer = window.plan(s, METHOD, SIZE, SAMPLE_SCALE, TWIDDLE_SCALE);
-    let plan = format!(in rt.alloc();
+    let plan = format_args!(
         "plan {METHOD}, size {SIZE}, scales {SAMPLE_SCALE} and {TWIDDLE_SCALE}"
-    )?;
-    print_answer(rt, plan.as_str(), answer)?;
-    print_answer(rt, "begin", window.begin())?;
-    let accepted = load_all(s, &mut window, loaded);
+    );
+    rt.println(Answered(plan, answer))?;
+    rt.println(Answered("begin", window.begin()))?;
+    for (n, pair) in loaded.iter().enumerate() {
+        window.load(s, n, *pair)?;
+    }
+    let accepted = loaded.len();
     println!(rt; "load 0 to 63: {accepted} ok")?;
-    print_stages(rt, s, &mut window)?;
-    Ok(())
+    print_stages(rt, s, &mut window)
 }
 
 // What the houses hold at place 5 once so many stages are done.
@@ -79,7 +56,7 @@ fn print_place(
 ) -> anyhow::Result<()> {
     let outcome = transform(rt.alloc(), s, Request::stages(stages), loaded)?;
     if let Some(pair) = outcome.block.get(5) {
-        let shares = Shares { pair: *pair };
+        let shares = Shares(*pair);
         println!(rt; "{stages:>6}           {shares}")?;
     }
     Ok(())
@@ -93,7 +70,7 @@ pub(crate) fn print_held(
 ) -> anyhow::Result<()> {
     println!(rt; "\nWhat each house holds at place 5, by the stages done\n")?;
     println!(rt; "stages           {SHARE_COLUMNS}")?;
-    for stages in 0..STAGES + 1 {
+    for stages in 0..=STAGES {
         print_place(rt, s, loaded, stages)?;
     }
     Ok(())

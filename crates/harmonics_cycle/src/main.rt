@@ -3,7 +3,6 @@
 #![tactic(auto)]
 
 mod cards;
-mod decimals;
 mod example;
 mod houses;
 mod masks;
@@ -14,7 +13,6 @@ mod schemes;
 mod session;
 mod spectrum;
 
-use anyhow::anyhow;
 use cards::print_cards;
 use example::MODULUS;
 use houses::{print_calls, print_held};
@@ -29,10 +27,7 @@ use split::Split;
 
 // The whole way, from the plan to the reader.
 fn print_all(rt: &(impl Print + AllocGlobal)) -> anyhow::Result<()> {
-    let Ok(plain) = Plain::new(MODULUS) else {
-        return Err(anyhow!("no modulus"));
-    };
-    let mut s = Split::new(plain);
+    let mut s = Split::new(Plain::new(MODULUS)?);
     let sealed = seal_cycle(&mut s, rt.alloc())?;
     print_cards(rt)?;
     print_meter(rt, sealed.as_slice())?;

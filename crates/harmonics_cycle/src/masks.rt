@@ -18,10 +18,9 @@ fn print_alike(
     sealed: &[Pair],
 ) -> anyhow::Result<()> {
     let masks = masks_for(rt.alloc(), modulus_of(s), house, sealed, &[FLAT; 3])?;
-    for (n, words) in masks.iter().enumerate() {
-        if let Ok(pair) = pairs::seal(s, SAMPLE_SCALE, FLAT, *words) {
-            print_sample(rt, n, FLAT.re, pair)?;
-        }
+    for (n, words) in masks.into_iter().enumerate() {
+        let pair = pairs::seal(s, SAMPLE_SCALE, FLAT, words)?;
+        print_sample(rt, n, FLAT.re, pair)?;
     }
     Ok(())
 }

@@ -1,9 +1,7 @@
 // The meter: samples one cycle of a current and seals each sample for the two houses.
 use crate::example::{MODULUS, Pair, SAMPLE_SCALE, SIZE};
-use anyhow::anyhow;
 use integers::Complex;
 use scheme::{Scheme, pairs};
-use split::Halves;
 use std::alloc::Global;
 use std::{fmt, io};
 
@@ -24,7 +22,7 @@ struct Generator {
 }
 
 impl Generator {
-    // The next mask word, below the modulus.
+    // The next word, below the modulus.
     fn word(&mut self) -> u64 {
         self.state = self
             .state
@@ -34,19 +32,24 @@ impl Generator {
     }
 }
 
+// The mask words, two for each sample, without an end.
+impl Iterator for Generator {
+    type Item = (u64, u64);
+
+    fn next(&mut self) -> Option<(u64, u64)> {
+        Some((self.word(), self.word()))
+    }
+}
+
 // Every sample of the cycle, sealed with two mask words of its own.
 pub(crate) fn seal_cycle<S: Scheme>(
     s: &mut S,
     heap: Global,
 ) -> anyhow::Result<Vec<(S::Number, S::Number)>> {
-    let mut masks = Generator { state: 1 };
+    let masks = Generator { state: 1 };
     let mut sealed = Vec::new(heap);
-    for re in CURRENT {
-        let words = (masks.word(), masks.word());
-        match pairs::seal(s, SAMPLE_SCALE, Complex { re, im: 0 }, words) {
-            Ok(pair) => sealed.push(pair)?,
-            Err(_) => return Err(anyhow!("a sample was refused")),
-        }
+    for (re, words) in CURRENT.into_iter().zip(masks) {
+        sealed.push(pairs::seal(s, SAMPLE_SCALE, Complex { re, im: 0 }, words)?)?;
     }
     Ok(sealed)
 }
@@ -56,29 +59,23 @@ pub const SHARE_COLUMNS: &str = "first house: re, im         second house: re, i
 
 // What the two houses hold of a pair: both components' first shares, then both second shares.
 #[derive(Clone, Copy)]
-pub(crate) struct Shares {
-    pub(crate) pair: Pair,
-}
+pub(crate) struct Shares(pub(crate) Pair);
 
 // Four columns.
 impl fmt::Display for Shares {
     fn fmt<W: fmt::Write>(&self, f: &mut fmt::Formatter<W>) -> fmt::Result {
-        let (re, im) = self.pair;
-        let Halves {
-            first: a,
-            second: c,
-        } = re;
-        let Halves {
-            first: b,
-            second: d,
-        } = im;
-        write!(f, "{a:>12} {b:>12}   {c:>12} {d:>12}")
+        let Shares((re, im)) = *self;
+        write!(
+            f,
+            "{:>12} {:>12}   {:>12} {:>12}",
+            re.first, im.first, re.second, im.second
+        )
     }
 }
 
 // One sample, and what each house gets of it.
 pub(crate) fn print_sample(rt: &impl Print, n: usize, sample: i64, pair: Pair) -> io::Result<()> {
-    let shares = Shares { pair };
+    let shares = Shares(pair);
     println!(rt; "{n:>6} {sample:>7}   {shares}")
 }
 

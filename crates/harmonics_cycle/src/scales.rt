@@ -1,26 +1,29 @@
 // A wrong scale: what a reader makes of a line where it takes the scale from a comment and not from the line.
 use crate::cards::print_card;
 use crate::example::Pair;
-use crate::reader::narrowed;
 use crate::session::{Request, transform};
 use crate::spectrum::amplitude;
+use anyhow::Context;
 use plain::Plain;
 use plan::Method;
 use split::Split;
 use states::Line;
-use std::io;
 
 // The scale that a comment names: right for direct lines, where it is the twiddle scale.
 const COMMENT_SCALE: u64 = 32_768;
 
 // The fifth harmonic, read with the scale that its line is stated with and with the one of the comment.
-fn print_readings(rt: &impl Print, request: Request<'_>, line: &Line) -> io::Result<()> {
-    let method = request.method;
-    let twiddle = request.twiddle_scale;
-    let scale = narrowed(line.scale);
-    let right = amplitude(line, scale);
-    let wrong = amplitude(line, COMMENT_SCALE);
-    println!(rt; "{twiddle:>13} {scale:>13}  {right}  {wrong}   {method}")
+fn print_readings(rt: &impl Print, request: Request<'_>, line: &Line) -> anyhow::Result<()> {
+    let Request {
+        method,
+        twiddle_scale,
+        ..
+    } = request;
+    let scale = line.scale;
+    let right = amplitude(line, scale).context("a line without an amplitude")?;
+    let wrong = amplitude(line, u128::from(COMMENT_SCALE)).context("a line without an amplitude")?;
+    println!(rt; "{twiddle_scale:>13} {scale:>13}  {right:>10}  {wrong:>10}   {method}")?;
+    Ok(())
 }
 
 // Line 5 by the plan for which the comment is right, and the same line of the example's plan.
@@ -39,13 +42,13 @@ pub(crate) fn print_scales(
         method: Method::Direct,
         twiddle_scale: COMMENT_SCALE,
         stages: 0,
-        lines: &[5],
+        ..Request::lines(&[5])
     };
     let direct = transform(rt.alloc(), s, request, sealed)?;
     if let (Some(before), Some(after)) = (direct.lines.first(), lines.get(5)) {
         print_readings(rt, request, before)?;
         print_readings(rt, Request::lines(&[5]), after)?;
-        let times = narrowed(after.scale) / COMMENT_SCALE;
+        let times = after.scale / u128::from(COMMENT_SCALE);
         println!(rt;
             "\nWith the comment's scale the line by radix 4 reads {times} times too large:\ndivide by the scale that is stated with the line."
         )?;

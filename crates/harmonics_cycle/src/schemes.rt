@@ -3,7 +3,6 @@ use crate::example::MODULUS;
 use crate::meter::seal_cycle;
 use crate::reader::HARMONICS;
 use crate::session::{Request, transform};
-use anyhow::anyhow;
 use plain::Plain;
 use scheme::Scheme;
 use states::Line;
@@ -31,13 +30,9 @@ fn print_same<S: Scheme>(
 // The lines under plain residues and under a residue system, compared with those of the split.
 pub(crate) fn print_schemes(rt: &(impl Print + AllocGlobal), lines: &[Line]) -> anyhow::Result<()> {
     println!(rt; "\nThe same lines under the other schemes\n")?;
-    let Ok(mut plain) = Plain::new(MODULUS) else {
-        return Err(anyhow!("no modulus"));
-    };
+    let mut plain = Plain::new(MODULUS)?;
     print_same(rt, "plain residues", &mut plain, lines)?;
-    let Ok(mut system) = System::new(10_007, 10_009, 10_037) else {
-        return Err(anyhow!("no moduli"));
-    };
+    let mut system = System::new(10_007, 10_009, 10_037)?;
     print_same(
         rt,
         "the residue system 10007, 10009, 10037",

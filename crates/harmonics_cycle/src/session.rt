@@ -6,6 +6,7 @@ use runs::run;
 use scheme::Scheme;
 use states::{Call, Line};
 use std::alloc::{AllocError, Global};
+use std::iter;
 
 // What the houses are asked for: a plan of this method and twiddle scale, so many stages, and these lines.
 #[derive(Clone, Copy)]
@@ -42,24 +43,30 @@ fn calls_of<N: Copy>(
     request: Request<'_>,
     loaded: &[(N, N)],
 ) -> Result<Vec<Call<N>>, AllocError> {
-    let mut calls = Vec::new(heap);
-    calls.push(Call::Plan {
-        method: request.method,
+    let Request {
+        method,
+        twiddle_scale,
+        stages,
+        lines,
+    } = request;
+    let plan = Call::Plan {
+        method,
         size: SIZE,
         sample_scale: SAMPLE_SCALE,
-        twiddle_scale: request.twiddle_scale,
-    })?;
-    for (n, pair) in loaded.iter().enumerate() {
-        calls.push(Call::Load { n, pair: *pair })?;
-    }
-    calls.push(Call::Begin)?;
-    for _ in 0..request.stages {
-        calls.push(Call::Advance)?;
-    }
-    for k in request.lines {
-        calls.push(Call::Line { k: *k })?;
-    }
-    Ok(calls)
+        twiddle_scale,
+    };
+    let loads = loaded
+        .iter()
+        .enumerate()
+        .map(|(n, pair)| Call::Load { n, pair: *pair });
+    let advances = (0..stages).map(|_| Call::Advance);
+    let lines = lines.iter().map(|k| Call::Line { k: *k });
+    iter::once(plan)
+        .chain(loads)
+        .chain(iter::once(Call::Begin))
+        .chain(advances)
+        .chain(lines)
+        .collect(heap)
 }
 
 // A block with room for one cycle.
@@ -68,11 +75,7 @@ pub(crate) fn empty_block<S: Scheme>(
     s: &mut S,
 ) -> Result<Vec<(S::Number, S::Number)>, AllocError> {
     let zero = s.zero();
-    let mut block = Vec::new(heap);
-    for _ in 0..SIZE {
-        block.push((zero, zero))?;
-    }
-    Ok(block)
+    vec![in heap; (zero, zero); SIZE as usize]
 }
 
 // What a request leaves: the lines that were opened, and the block.
@@ -92,11 +95,9 @@ pub(crate) fn transform<S: Scheme>(
     let calls = calls_of(heap, request, loaded)?;
     let mut block = empty_block(heap, s)?;
     let answers = run(s, block.as_mut_slice(), calls.as_slice(), heap)?;
-    let mut lines = Vec::new(heap);
-    for answer in answers.iter().copied() {
-        if let Ok(Some(line)) = answer {
-            lines.push(line)?;
-        }
-    }
+    let lines = answers
+        .into_iter()
+        .filter_map(|answer| answer.ok().flatten())
+        .collect(heap)?;
     Ok(Outcome { lines, block })
 }

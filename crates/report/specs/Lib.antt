@@ -1,0 +1,4 @@
+pub mod Decimal
+pub mod Samples
+pub mod Reading
+pub mod Answered
