@@ -28,6 +28,7 @@ const FLAT: Complex = Complex { re: 40, im: 0 };
 type Pair = (Halves<u64>, Halves<u64>);
 
 // The meter: every sample of the cycle, sealed with two mask words of its own.
+// Kept apart from the one in harmonics_cycle: a function of both over an iterator of words needs a `requires` for it, and is no plainer than this loop.
 pub(crate) fn seal_cycle<S: Scheme>(
     s: &mut S,
     heap: Global,

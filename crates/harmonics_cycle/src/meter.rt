@@ -42,6 +42,7 @@ impl Iterator for Generator {
 }
 
 // Every sample of the cycle, sealed with two mask words of its own.
+// Kept apart from the one in harmonics: a function of both over an iterator of words needs a `requires` for it, and is no plainer than this loop.
 pub(crate) fn seal_cycle<S: Scheme>(
     s: &mut S,
     heap: Global,

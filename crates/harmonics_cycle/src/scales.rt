@@ -3,7 +3,6 @@ use crate::cards::print_card;
 use crate::example::Pair;
 use crate::session::{Request, transform};
 use crate::spectrum::amplitude;
-use anyhow::Context;
 use plain::Plain;
 use plan::Method;
 use split::Split;
@@ -20,8 +19,8 @@ fn print_readings(rt: &impl Print, request: Request<'_>, line: &Line) -> anyhow:
         ..
     } = request;
     let scale = line.scale;
-    let right = amplitude(line, scale).context("a line without an amplitude")?;
-    let wrong = amplitude(line, u128::from(COMMENT_SCALE)).context("a line without an amplitude")?;
+    let right = amplitude(line, scale)?;
+    let wrong = amplitude(line, u128::from(COMMENT_SCALE))?;
     println!(rt; "{twiddle_scale:>13} {scale:>13}  {right:>10}  {wrong:>10}   {method}")?;
     Ok(())
 }

@@ -12,15 +12,18 @@ fn magnitude(line: &Line) -> u128 {
 }
 
 // The amplitude of the harmonic, where the line is read with this scale: twice the line over the samples.
-pub(crate) fn amplitude(line: &Line, scale: u128) -> Option<Decimal> {
-    let size = i64::try_from(magnitude(line)).ok()?;
-    Decimal::ratio(size, scale.checked_mul(u128::from(SIZE / 2))?)
+pub(crate) fn amplitude(line: &Line, scale: u128) -> anyhow::Result<Decimal> {
+    let size = i64::try_from(magnitude(line))?;
+    scale
+        .checked_mul(u128::from(SIZE / 2))
+        .and_then(|scale| Decimal::ratio(size, scale))
+        .context("a scale that is 0 or has no room")
 }
 
 // The amplitude of a line and its bar, at most 50 wide.
 fn print_bar(rt: &impl Print, line: &Line) -> anyhow::Result<()> {
     let index = line.index;
-    let amplitude = amplitude(line, line.scale).context("a line without an amplitude")?;
+    let amplitude = amplitude(line, line.scale)?;
     let length = usize::try_from(amplitude.hundredths / 1000)?.min(50);
     println!(rt; "{index:>4} {amplitude:>10} |{:#<length$}", "")?;
     Ok(())

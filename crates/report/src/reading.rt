@@ -1,5 +1,5 @@
 // A complex number over a scale, to two decimals.
-ghost use Rattle.std.specs.Prelude.{◌≡◌, ◌^◌, ◌++◌, length, codes, Some, IfSome, MatchOption};
+ghost use Rattle.std.specs.Prelude.{◌≡◌, ◌^◌, ◌≤◌, ◌++◌, length, codes, unsigned_abs, All, Some, IfSome, IsSome, MatchOption};
 ghost use Rattle.lines.specs.Lines.{fine_line_of};
 ghost use Rattle.report.specs.Decimal.{decimal_text};
 ghost use Rattle.report.specs.Samples.{samples_of};
@@ -30,7 +30,8 @@ impl Reading {
     // Line k of the fine transform of real samples over 2^30, which is the exact line but for the circle's rounding. None where a component has no
     // room in 64 bits.
     pub fn exact(samples: &[i64], k: usize) -> Option<Reading>
-        ensures { IfSome result (Reads (fine_line_of (length samples.now) (samples_of samples.now) k) (2 ^ 30)) }
+        ensures value { IfSome result (Reads (fine_line_of (length samples.now) (samples_of samples.now) k) (2 ^ 30)) }
+        ensures room { length samples.now ≤ 256 → All (λ x. unsigned_abs x ≤ 2 ^ 24) samples.now → IsSome result }
     {
         Reading::new(fine_line(samples, k)?, 1 << 30)
     }
