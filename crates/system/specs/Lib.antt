@@ -3,5 +3,3 @@ pub mod Making
 pub mod Meant
 pub mod Moduli
 pub mod Laws
-pub mod Bezout
-pub mod Congruence

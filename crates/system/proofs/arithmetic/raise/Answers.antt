@@ -1,7 +1,7 @@
 use Rattle.std.proofs.Common.{◌*◌, ◌^◌, ◌<◌, refl, arith, rules}
 use Rattle.std.proofs.lemmas.Nat.{mul-lt}
 use Rattle.system.specs.Hidden.{raised}
-use Rattle.system.specs.Congruence.{raised_below}
+use Rattle.system.specs.Laws.{raised_below}
 use Rattle.system.proofs.arithmetic.raise.Goals as goal
 
 pub overflow_add-result : goal.overflow_add-result

@@ -1,5 +1,5 @@
 use Rattle.std.proofs.Common.{arith}
-use Rattle.system.specs.Bezout.{begins, turns, ends, found}
+use Rattle.system.proofs.Bezout.{begins, turns, ends, found}
 use Rattle.system.proofs.euclid.inverse.Goals as goal
 
 pub loop-next-init : goal.loop-next-init

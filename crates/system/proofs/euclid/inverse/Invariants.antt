@@ -1,4 +1,4 @@
-use Rattle.system.specs.Bezout.{Going}
+use Rattle.system.proofs.Bezout.{Going}
 use Rattle.system.proofs.euclid.inverse.Given as goal
 
 abbrev pub invariant-loop-next : goal.invariant-loop-next

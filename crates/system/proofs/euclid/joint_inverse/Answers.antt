@@ -1,5 +1,5 @@
 use Rattle.std.proofs.Common.{mod-lt, arith}
-use Rattle.system.specs.Congruence.{joint_inverse_lem}
+use Rattle.system.proofs.Congruence.{joint_inverse_lem}
 use Rattle.system.proofs.euclid.joint_inverse.Goals as goal
 
 pub returns : goal.returns

@@ -1,4 +1,4 @@
-use Rattle.system.specs.Laws.{figure}
+use Rattle.system.proofs.Owed.{figure}
 use Rattle.system.proofs.theorems.figure_stands.Goals as goal
 
 pub returns : goal.returns

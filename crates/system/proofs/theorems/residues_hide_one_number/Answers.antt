@@ -1,4 +1,4 @@
-use Rattle.system.specs.Laws.{one_is_hidden}
+use Rattle.system.proofs.Owed.{one_is_hidden}
 use Rattle.system.proofs.theorems.residues_hide_one_number.Goals as goal
 
 pub returns : goal.returns

@@ -1,5 +1,5 @@
 use Rattle.std.proofs.Common.{rules}
-use Rattle.system.specs.Laws.{opposite_owed}
+use Rattle.system.proofs.Owed.{opposite_owed}
 use Rattle.system.proofs.calls.SystemScheme.opposite.Goals as goal
 
 pub returns : goal.returns

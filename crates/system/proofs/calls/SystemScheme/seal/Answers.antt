@@ -1,7 +1,7 @@
 use Rattle.std.proofs.Common.{◌<◌, w64, SFits, rules}
 use Rattle.std.proofs.lemmas.Int.{to_z-of_z}
 use Rattle.system.specs.Hidden.{product}
-use Rattle.system.specs.Laws.{sealed_owed}
+use Rattle.system.proofs.Owed.{sealed_owed}
 use Rattle.system.proofs.calls.SystemScheme.seal.Goals as goal
 
 pub returns : goal.returns

@@ -1,5 +1,5 @@
 use Rattle.std.proofs.Common.{rules}
-use Rattle.system.specs.Laws.{sum_owed}
+use Rattle.system.proofs.Owed.{sum_owed}
 use Rattle.system.proofs.calls.SystemScheme.sum.Goals as goal
 
 pub returns : goal.returns

@@ -1,5 +1,5 @@
 use Rattle.std.proofs.Common.{rules}
-use Rattle.system.specs.Laws.{zero_owed}
+use Rattle.system.proofs.Owed.{zero_owed}
 use Rattle.system.proofs.calls.SystemScheme.zero.Goals as goal
 
 pub returns : goal.returns

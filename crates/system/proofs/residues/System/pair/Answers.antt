@@ -1,5 +1,5 @@
 use Rattle.std.proofs.Common.{refl}
-use Rattle.system.specs.Laws.{pair_most}
+use Rattle.system.proofs.Owed.{pair_most}
 use Rattle.system.proofs.residues.System.pair.Goals as goal
 
 pub returns : goal.returns

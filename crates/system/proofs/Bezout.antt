@@ -5,7 +5,7 @@ use Rattle.std.proofs.Common.{sym, ap, ◌∙◌, add-mul, mul-add, mul_assoc, m
 use Rattle.std.proofs.Math.Nat.{mod_self, zero-mod, mod-mod, mod-add-div, add-mul-mod_self_left, add-mod-mod, dvd-mod_iff, dvd_refl, dvd-zero, eq-one_of_dvd-one, dvd-mul_right_of_dvd}
 use Rattle.system.specs.Moduli.{Coprime, Inverts}
 use Rattle.std.proofs.lemmas.Nat.{mul-mod_first, mul-mod_second}
-use Rattle.system.specs.Congruence.{cancel}
+use Rattle.system.proofs.Congruence.{cancel}
 
 -- rest and next are multiples of a, by f and g, modulo m; whatever divides both divides a and m
 pub record Going (a m rest next f g : ℕ) : Type 0 where

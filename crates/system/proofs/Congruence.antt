@@ -3,7 +3,7 @@ use Rattle.std.specs.Prelude.{◌≡◌, ℕ, ◌+◌, ◌-◌, ◌*◌, ◌/◌
 use Rattle.std.specs.Int.{◌∣◌}
 use Rattle.std.proofs.Math.Path.{sym, ap}
 use Rattle.std.proofs.Common.{◌∙◌, ⊎_elim, add-mul, mul_assoc, mul_comm, one-mul, mul_left_comm, eq-zero-or-pos, arith}
-use Rattle.std.proofs.Math.Nat.{mul-add, mul-one, mod-add-div, div-add-mod, add-mul-mod_self_left, add-mod-mod, mod-add-mod, mod-lt, mod-eq_of_lt, add-mod_right, mul-div_cancel', dvd-mul_right, dvd-mul_left_of_dvd, dvd-add_iff_right, mul-dvd-mul_left, dvd-sub, le_of_dvd, mul-le-mul_left, mul-mul-mul_comm}
+use Rattle.std.proofs.Math.Nat.{mul-one, mod-add-div, div-add-mod, add-mul-mod_self_left, add-mod-mod, mod-add-mod, mod-lt, mod-eq_of_lt, add-mod_right, mul-div_cancel', dvd-mul_right, dvd-mul_left_of_dvd, dvd-add_iff_right, mul-dvd-mul_left, dvd-sub, le_of_dvd, mul-mul-mul_comm}
 use Rattle.std.proofs.lemmas.Nat.{mul-mod_first, mul-mod_second}
 use Rattle.std.proofs.lemmas.Bool.{cases_lt}
 use Rattle.system.specs.Hidden.{raised}
@@ -52,7 +52,7 @@ joined a m u d inv ad md =
 pub none_below : (n d : ℕ) → n ∣ d → d < n → d ≡ 0
 none_below n d h lt = ⊎_elim (λ (z : d ≡ 0). z) (λ (p : 0 < d). let le : n ≤ d = le_of_dvd p h in (omega arith)) (eq-zero-or-pos d)
 
--- the mixed-radix digit keeps what the base leaves modulo a, leaves x modulo m, and fills no more than a and m allow
+-- the mixed-radix digit keeps what the base leaves modulo a and leaves x modulo m
 module _ (base a m u x : ℕ) where
   pub raised_old : raised base a m u x % a ≡ base % a
   unfolding raised
@@ -68,11 +68,3 @@ module _ (base a m u x : ℕ) where
       let low : base % m < m = mod-lt base (omega arith) in
       sym (add-mod-mod base (a * (t * u % m)) m) ∙ ap (λ z. (base + z) % m) product ∙ add-mod-mod base t m ∙ sym (mod-add-mod base m t)
       ∙ ap (λ z. z % m) (omega arith) ∙ add-mod_right x m ∙ mod-eq_of_lt h
-
-  pub raised_below : base < a → 0 < m → raised base a m u x < a * m
-  unfolding raised
-  raised_below h p =
-      let k : ℕ = ((x + (m - base % m)) * u) % m in
-      let lt : k < m = mod-lt _ p in
-      let le : a * (k + 1) ≤ a * m = mul-le-mul_left a (omega arith) in
-      omega (arith, mul-add a k 1, mul-one a)

@@ -1,0 +1,3 @@
+pub mod Bezout
+pub mod Congruence
+pub mod Owed
