@@ -110,6 +110,7 @@ impl<'a, P: Print, S: Scheme> Sweep<'a, P, S> {
     }
 }
 
+// Kept: a match, in this and in the next two. A scheme that is refused is a line of the sweep and not its end, as `?` would make it.
 fn print_plain(rt: &impl Print, n: u64) -> io::Result<()> {
     let mut s = match Plain::new(n) {
         Ok(s) => s,
