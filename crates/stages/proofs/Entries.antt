@@ -10,11 +10,8 @@ use Rattle.scheme.specs.Hidden.{StandsPair}
 use Rattle.stages.specs.Mixing.{Replaced}
 
 -- entry i of the butterfly at offset k lies in its group
-pub entry_inside : (r span g k i : ℕ) → i < r → k < span → g * (r * span) + k + i * span < g * (r * span) + r * span
-entry_inside r span g k i hi hk = let a : i * span + k < r * span = digits_lt hi hk in omega arith
-
-pub entry_within : (r span g k i n : ℕ) → i < r → k < span → g * (r * span) + r * span ≤ n → g * (r * span) + k + i * span < n
-entry_within r span g k i n hi hk h = let a = entry_inside r span g k i hi hk in omega arith
+pub entry_inside : (r span g k i n : ℕ) → i < r → k < span → g * (r * span) + r * span ≤ n → g * (r * span) + k + i * span < n
+entry_inside r span g k i n hi hk h = let a : i * span + k < r * span = digits_lt hi hk in omega arith
 
 -- where the last entry lies below n, all do
 pub entries_below : (r first span n i : ℕ) → i < r → first + (r - 1) * span < n → first + i * span < n
@@ -66,9 +63,6 @@ module _ {Number : Type 0} (m : Meaning Number) where
   read_stands v z xs p q x d e inside is h = subst (StandsPair m v z) (sym (get_or_read xs p x inside is d ∙ ap (λ n. get_or xs n d) e)) h
 
   -- the factors, entry after entry
-  pub none_replaced : (first span : ℕ) (f : (ℕ → Complex) → ℕ → Complex) (xs : List (Number × Number)) → Replaced m 0 first span f xs xs
-  none_replaced first span f xs = record { made = λ v d x stood l h. absurd (omega arith); kept = λ p not d. refl }
-
   pub one_more : (n first span : ℕ) (w : ℕ → Complex) (before now : List (Number × Number)) (x y : Number × Number) → 0 < span → first + n * span < length now → x ≡ get_or now (first + n * span) x → ((v : View) (z : Complex) → StandsPair m v z x → StandsPair m v (w n ⊗ z) y) → Replaced m n first span (λ z i. w i ⊗ z i) before now → Replaced m (n + 1) first span (λ z i. w i ⊗ z i) before (set now (first + n * span) y)
   one_more n first span w before now x y some inside is weighted h = record { made = made; kept = kept }
     where

@@ -1,6 +1,6 @@
 -- A finished stage.
 use Rattle.std.proofs.Common.{◌≡◌, ℕ, suc, ◌+◌, ◌-◌, ◌*◌, ◌/◌, ◌%◌, ◌^◌, ◌<◌, ◌≤◌, true, List, [], ◌∷◌, length, get_or, Some, None, Err, Option, Result, sym, refl, ap, ◌∙◌, subst, mod-lt, div-lt_iff_lt-mul, div-add-mod', arith}
-use native.Mathlib.Nat.{pow-succ'}
+use native.Mathlib.Nat.{pow-succ', one-le-pow}
 use lib.Arith.{digits_lt}
 use Rattle.integers.specs.declared.Complex.{Complex}
 use Rattle.plan.specs.declared.plan.Plan.{Plan}
@@ -20,7 +20,6 @@ use Rattle.refusal.specs.declared.kinds.Refusal.TheVariants.{Moment}
 use Rattle.stages.specs.Stage.{entries, Making, StageAnswer, StageRefused, PowerBelow, stages_in, Stage}
 use Rattle.stages.proofs.Blocks.{entry_itself, both, both_true, sound_there, read_there}
 use Rattle.stages.proofs.Making.{place_inside}
-use Rattle.stages.proofs.Reversal.{power_some}
 use Rattle.stages.proofs.Shapes.{Shape, unshaped, staging_of, base_two, powered, power_splits, groups_are}
 
 module _ {Number : Type 0} (m : Meaning Number) (lawful : Sound m) where
@@ -60,8 +59,8 @@ module _ {Number : Type 0} (m : Meaning Number) (lawful : Sound m) where
     pub sound_after : (i : ℕ) → i < groups * r ^ suc t → is_well_formed_at m after i ≡ true
     unfolding place
     sound_after i h =
-        let some : 0 < r ^ t = power_some r t (omega arith) in
-        let more : 0 < r ^ suc t = power_some r (suc t) (omega arith) in
+        let some : 0 < r ^ t = one-le-pow t r (omega arith) in
+        let more : 0 < r ^ suc t = one-le-pow (suc t) r (omega arith) in
         let g = i / r ^ suc t in
         let j = i % r ^ suc t in
         let k = j % r ^ t in

@@ -1,5 +1,5 @@
 -- A stage in the making, one butterfly after the other.
-use Rattle.std.proofs.Common.{◌≡◌, ℕ, zero, suc, ◌+◌, ◌*◌, ◌/◌, ◌%◌, ◌^◌, ◌<◌, ◌≤◌, List, [], sym, refl, ap, ◌∙◌, subst, arith}
+use Rattle.std.proofs.Common.{◌≡◌, ℕ, suc, ◌+◌, ◌*◌, ◌/◌, ◌%◌, ◌^◌, ◌<◌, ◌≤◌, List, [], sym, refl, ap, ◌∙◌, subst, arith}
 use native.Mathlib.Nat.{pow-succ'}
 use native.Mathlib.Decide.{dec_lt}
 use lib.Arith.{digits_lt, digits_div, digits_mod}
@@ -17,17 +17,7 @@ place_inside r t groups g k i hg hk hi =
     let a : i * r ^ t + k < r ^ suc t = rw pow-succ' (digits_lt hi hk) in
     digits_lt hg a
 
--- up to size 4 the factors of radix 2 are exact
-pub exact_offset : (k span : ℕ) → k < span → 2 * span ≤ 4 → k * (4 / (2 * span)) ≤ 1
-exact_offset k zero h l = absurd (omega arith)
-exact_offset k (suc zero) h l = omega arith
-exact_offset k (suc (suc zero)) h l = omega arith
-exact_offset k (suc (suc (suc n))) h l = absurd (omega arith)
-
 module _ {Number : Type 0} (m : Meaning Number) (q r t groups : ℕ) where
-  pub making_start : (xs : List (Number × Number)) → Making m q r t groups 0 xs xs
-  making_start xs = record { done = λ v d g k a b c. absurd (omega arith); left = λ d g k i a b c. refl; past = λ d p h. refl }
-
   -- entries of butterflies that are the same before and after
   mixed_from : (v : View) (g k : ℕ) (a b c e : ℕ → Number × Number) → ((i : ℕ) → i < r → a (place r t g k i) ≡ b (place r t g k i)) → ((i : ℕ) → i < r → c (place r t g k i) ≡ e (place r t g k i)) → Mixed (StandsPair m v) q r t g k b c → Mixed (StandsPair m v) q r t g k a e
   mixed_from v g k a b c e first last h x stood l less =

@@ -3,16 +3,12 @@ use Rattle.std.proofs.Common.{◌≡◌, ℕ, zero, suc, ◌+◌, ◌-◌, ◌*�
 use native.Mathlib.Nat.{pow-zero, mul-div-le, one-le-pow}
 use Rattle.lines.specs.Places.{reversed}
 
--- a power is at least 1
-pub power_some : (r u : ℕ) → 0 < r → 0 < r ^ u
-power_some r u h = one-le-pow u r h
-
 -- a size of 1 has no digits
 pub no_digits : (r size n u : ℕ) → 1 < r → size ≤ 1 → size ≡ r ^ u → 0 ≡ reversed r u n
 unfolding reversed
 no_digits r size n zero h s e = refl
 no_digits r size n (suc u) h s e =
-    let a : 0 < r ^ u = power_some r u (omega arith) in
+    let a : 0 < r ^ u = one-le-pow u r (omega arith) in
     let b : 1 * r ≤ r ^ u * r = mul-le-mul_right r a in
     absurd (omega (arith, pow-suc r u, b))
 

@@ -1,6 +1,6 @@
 -- Counting: groups, offsets and powers.
 use Rattle.std.proofs.Common.{◌≡◌, ℕ, suc, ◌+◌, ◌-◌, ◌*◌, ◌/◌, ◌^◌, ◌<◌, ◌≤◌, true, sym, ap, ◌∙◌, mul-le-mul_right, suc-mul, mul_comm, mul-le-mul_left, pow-suc, mul-div_cancel, arith, pow-add}
-use native.Mathlib.Nat.{pow-succ', pow-le-pow_right, pow-le-pow_left}
+use native.Mathlib.Nat.{pow-succ', pow-le-pow_right, pow-le-pow_left, one-le-pow}
 use native.Mathlib.Decide.{dec_lt}
 use Rattle.plan.specs.declared.method.Method.{Method}
 use Rattle.plan.specs.declared.method.Method.TheVariants.{Direct, Radix2, Radix4}
@@ -10,7 +10,6 @@ use Rattle.plan.proofs.Powers.{at_most_256}
 use Rattle.lines.specs.Lines.{stage_count}
 use Rattle.lines.proofs.Sizes.{size2, size4}
 use Rattle.stages.specs.Stage.{stages_in}
-use Rattle.stages.proofs.Reversal.{power_some}
 
 -- a group ends within all of them
 pub group_fits : (group groups n limit : ℕ) → group < groups → groups * n ≤ limit → group * n + n ≤ limit
@@ -30,7 +29,7 @@ power_reaches r t n h l = go (dec_lt t n)
     go : Dec (t < n) → n ≤ t
     go (no a) = omega arith
     go (yes a) =
-        let some : 0 < r ^ t = power_some r t (omega arith) in
+        let some : 0 < r ^ t = one-le-pow t r (omega arith) in
         let b : r ^ suc t ≤ r ^ n = pow-le-pow_right {n = r} (omega arith) {i = suc t} {j = n} a in
         let c : r ^ t * 2 ≤ r ^ t * r = mul-le-mul_left (r ^ t) h in
         absurd (omega (arith, pow-suc r t))
@@ -50,7 +49,7 @@ power_splits r t n h =
 
 pub groups_are : (r t n size span : ℕ) → 1 < r → t < n → size ≡ r ^ n → span ≡ r ^ t → size / (r * span) ≡ r ^ (n - suc t)
 groups_are r t n size span one h e f =
-    let some : 0 < r ^ suc t = power_some r (suc t) (omega arith) in
+    let some : 0 < r ^ suc t = one-le-pow (suc t) r (omega arith) in
     let pos : 0 < r * r ^ t = omega (arith, pow-suc r t, mul_comm (r ^ t) r) in
     ap (λ x. size / (r * x)) f ∙ ap (λ x. x / (r * r ^ t)) (e ∙ power_splits r t n h) ∙ mul-div_cancel (r ^ (n - suc t)) pos
 
@@ -95,7 +94,7 @@ size_step p t r span shape =
     let z : p.size ≡ b ^ stages_in p = powered p.method (staging_of p.method p.size t shape.moment) p.size p.size_lawful in
     let e : r * span ≡ b ^ suc t = ap (λ x. x * span) shape.radix ∙ ap (λ x. b * x) shape.power ∙ sym (pow-succ' b t) in
     let up : b ^ suc t ≤ b ^ stages_in p = pow-le-pow_right {n = b} (omega (arith, base_two p.method)) {i = suc t} {j = stages_in p} shape.moment in
-    let some : 0 < b ^ suc t = power_some b (suc t) (omega (arith, base_two p.method)) in
-    let few : 0 < b ^ t = power_some b t (omega (arith, base_two p.method)) in
+    let some : 0 < b ^ suc t = one-le-pow (suc t) b (omega (arith, base_two p.method)) in
+    let few : 0 < b ^ t = one-le-pow t b (omega (arith, base_two p.method)) in
     let top : p.size ≤ 256 = at_most_256 p.method p.size p.size_lawful in
     (omega (arith, shape.power), omega arith, omega arith)

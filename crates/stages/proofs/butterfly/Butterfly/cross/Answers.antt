@@ -6,15 +6,15 @@ use Rattle.scheme.specs.Meaning.{View}
 use Rattle.scheme.specs.Hidden.{StandsPair}
 use Rattle.lines.specs.Lines.{weight, butterfly}
 use Rattle.stages.specs.Mixing.{Replaced}
-use Rattle.stages.proofs.Entries.{entry_inside, entry_within, one_more}
+use Rattle.stages.proofs.Entries.{entry_inside, one_more}
 use Rattle.stages.proofs.Crossing.{crossed}
 use Rattle.stages.proofs.butterfly.Butterfly.cross.Goals as goal
 
 pub offset_bounds-block-place : goal.offset_bounds-block-place
-offset_bounds-block-place g c = let b = c.args.self in scaled_Fits _ (length c.args.block.now) _ (entry_within g.row.R b.span b.group b.k c.loop-i.i (length c.args.block.now) c.loop-i-test.true b.below c.requires.within) (search rules)
+offset_bounds-block-place g c = let b = c.args.self in scaled_Fits _ (length c.args.block.now) _ (entry_inside g.row.R b.span b.group b.k c.loop-i.i (length c.args.block.now) c.loop-i-test.true b.below c.requires.within) (search rules)
 
 pub offset_bounds-block-place-in-loop-i : goal.offset_bounds-block-place-in-loop-i
-offset_bounds-block-place-in-loop-i g c = let b = c.args.self in scaled_Fits _ (length c.args.block.now) _ (entry_within g.row.R b.span b.group b.k c.loop-i.i (length c.args.block.now) c.loop-i-test.true b.below c.requires.within) (search rules)
+offset_bounds-block-place-in-loop-i g c = let b = c.args.self in scaled_Fits _ (length c.args.block.now) _ (entry_inside g.row.R b.span b.group b.k c.loop-i.i (length c.args.block.now) c.loop-i-test.true b.below c.requires.within) (search rules)
 
 pub loop-i-preserved : goal.loop-i-preserved
 loop-i-preserved g c =
@@ -25,7 +25,7 @@ loop-i-preserved g c =
     let w : ℕ → Complex = λ n. weight b.scale (g.row.R * b.span) n b.k in
     let f : g.S.Scheme.meaning c.loop-i.s ≡ m = c.loop-i.invariant.frame in
     let h : (v : View) (z : Complex) → StandsPair m v z c.index-block-place.result → StandsPair m v (w i ⊗ z) c.weighted.result = simp f at c.weighted.ensures.value in
-    let inside = entry_inside g.row.R b.span b.group b.k i c.loop-i-test.true b.below in
+    let inside = entry_inside g.row.R b.span b.group b.k i (length c.args.block.now) c.loop-i-test.true b.below c.requires.within in
     record {
       frame = c.weighted.ensures.frame ∙ f;
       weighted = one_more m i first b.span w c.args.block.now c.loop-i.block c.index-block-place.result c.weighted.result (omega arith) (omega arith) c.index-block-place.is h c.loop-i.invariant.weighted;

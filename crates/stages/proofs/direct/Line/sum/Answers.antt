@@ -18,12 +18,12 @@ use Rattle.stages.proofs.direct.Line.sum.Goals as goal
 
 -- the items after the first, each with its index
 item : {A : Type 0} (xs : List A) (i n : ℕ) (y : A) → (i < length (drop 1 (enumerate_from 0 xs))) × ((n, y) ≡ get_or (drop 1 (enumerate_from 0 xs)) i (n, y)) → (i + 1 < length xs) × (n ≡ i + 1) × (y ≡ get_or xs (i + 1) y)
-item xs i n y (less, is) =
+item {A} xs i n y (less, is) =
     let l : i + 1 < length xs = omega (arith, length-drop 1 (enumerate_from 0 xs), length-enumerate_from 0 xs) in
     let e : (n, y) ≡ (0 + (1 + i), get_or xs (1 + i) y) = is ∙ get_or_after_one (enumerate_from 0 xs) i (n, y) ∙ get_or-enumerate_from 0 xs (1 + i) (n, y) (omega arith) in
     let o : 1 + i ≡ i + 1 = omega arith in
-    let h : n ≡ 0 + (1 + i) = ap (λ (p : ℕ × _). p.0) e in
-    (l, omega arith, ap (λ (p : ℕ × _). p.1) e ∙ ap (λ j. get_or xs j y) o)
+    let h : n ≡ 0 + (1 + i) = ap (λ (p : ℕ × A). p.0) e in
+    (l, omega arith, ap (λ (p : ℕ × A). p.1) e ∙ ap (λ j. get_or xs j y) o)
 
 pub loop-n-init : goal.loop-n-init
 loop-n-init g c =
