@@ -1,6 +1,6 @@
 -- Digits reversed, from the last digit on.
-use Rattle.std.proofs.Common.{◌≡◌, ℕ, zero, suc, ◌+◌, ◌-◌, ◌*◌, ◌/◌, ◌%◌, ◌^◌, ◌<◌, ◌≤◌, refl, ap, ◌∙◌, mul-le-mul_right, mod-lt, suc-mul, pow-suc, mul-zero, mul-div_cancel, arith}
-use native.Mathlib.Nat.{pow-zero, mul-div-le, one-le-pow}
+use Rattle.std.proofs.Common.{◌≡◌, ℕ, zero, suc, ◌+◌, ◌*◌, ◌/◌, ◌%◌, ◌^◌, ◌<◌, ◌≤◌, refl, ap, ◌∙◌, mul-le-mul_right, pow-suc, mul-div_cancel, arith}
+use native.Mathlib.Nat.{pow-zero, one-le-pow}
 use Rattle.lines.specs.Places.{reversed}
 
 -- a size of 1 has no digits
@@ -19,12 +19,3 @@ one_digit r size n zero rest h s e more = absurd (omega (arith, pow-zero r))
 one_digit r size n (suc u) rest h s e more =
     let d : size / r ≡ r ^ u = ap (λ x. x / r) (e ∙ pow-suc r u) ∙ mul-div_cancel (r ^ u) (omega arith) in
     ap (λ x. n % r * x + rest) d ∙ ap (λ x. n % r * r ^ u + x) (more u d)
-
--- what it comes to stays below the size
-pub digits_below : (r size n part rest : ℕ) → 1 < r → 1 < size → part ≡ size / r → rest ≤ part - 1 → n % r * part + rest ≤ size - 1
-digits_below r size n zero rest h s e less = omega (arith, mul-zero (n % r))
-digits_below r size n (suc p) rest h s e less =
-    let a : n % r < r = mod-lt n (omega arith) in
-    let b : suc (n % r) * suc p ≤ r * suc p = mul-le-mul_right (suc p) a in
-    let c : r * suc p ≤ size = rw e (mul-div-le size r) in
-    omega (arith, suc-mul (n % r) (suc p))
