@@ -1,5 +1,5 @@
 -- A run call by call: what the calls so far have done, one call more, and the law on opened lines over the whole run.
-use Rattle.std.proofs.Common.{◌≡◌, ℕ, List, [], ◌∷◌, ◌++◌, Some, None, Ok, Err, Option, Result, sym, refl, ap, ◌∙◌, subst, arith}
+use Rattle.std.proofs.Common.{◌≡◌, ℕ, List, [], ◌∷◌, ◌++◌, Some, None, Ok, Err, Option, Result, sym, refl, ap, ◌∙◌, subst}
 use Rattle.refusal.specs.declared.kinds.Refusal.{Refusal}
 use Rattle.scheme.specs.Meaning.{Meaning, Sound}
 use Rattle.states.specs.declared.State.{State}
@@ -15,11 +15,11 @@ use Rattle.runs.specs.Runs.{RightAnswer, AllRight, last_block, RunOf}
 
 -- a done call has opened no line
 done_opens_none : {l : Line} → ◌≡◌ {A = Result (Option Line) Refusal} (Ok (Some l)) (Ok None) → ⊥
-done_opens_none e = let z : ◌≡◌ {A = ℕ} 0 1 = cc in omega arith
+done_opens_none e = cc
 
 -- nor has a declined one
 declined_opens_none : {l : Line} {x : Refusal} → ◌≡◌ {A = Result (Option Line) Refusal} (Ok (Some l)) (Err x) → ⊥
-declined_opens_none e = let z : ◌≡◌ {A = ℕ} 0 1 = cc in omega arith
+declined_opens_none e = cc
 
 module _ {N : Type 0} (m : Meaning N) where
   -- the calls lead from a state and a block to a state and a block

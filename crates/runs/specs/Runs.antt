@@ -1,13 +1,12 @@
 -- Runs of a list of calls on a new window, and what is right about their answers.
-use Rattle.std.specs.Prelude.{◌≡◌, List, [], ◌∷◌, ◌++◌, Ok, Err, Result, None, Some, Option}
+use Rattle.std.specs.Prelude.{◌≡◌, List, [], ◌∷◌, Ok, Err, Result, None, Some, Option}
 use Rattle.refusal.specs.declared.kinds.Refusal.{Refusal}
 use Rattle.scheme.specs.Meaning.{Meaning}
-use Rattle.states.specs.declared.State.{State}
 use Rattle.states.specs.declared.State.TheVariants.{Idle}
 use Rattle.states.specs.declared.Call.{Call}
 use Rattle.states.specs.declared.Call.TheVariants.{Plan as PlanCall, Load, Begin, Advance, Line as LineCall, Restart}
 use Rattle.states.specs.declared.Line.{Line}
-use Rattle.states.specs.Step.{Pairs, Step}
+use Rattle.states.specs.Step.{Pairs}
 use Rattle.states.specs.History.{Event, RightBy}
 use Rattle.secrecy.specs.Secrecy.{After, Answers, answers_of, Run}
 
@@ -33,12 +32,6 @@ AllRight m past (c ∷ cs) (a ∷ rs) = RightAnswer m past a c × AllRight m (re
 abbrev pub last_block : {N : Type 0} → Pairs N → List (After N) → Pairs N
 last_block start [] = start
 last_block start (t ∷ ts) = last_block t.block ts
-
--- one call more: some answer of it, noted after the others
-pub record Noted {N : Type 0} (m : Meaning N) (st : State) (bl : Pairs N) (rs : Answers) (c : Call N) (st' : State) (bl' : Pairs N) (rs' : Answers) : Type 0 where
-  pub answer : Result (Option Line) Refusal
-  pub step : Step m st bl c answer st' bl'
-  pub noted : rs' ≡ rs ++ answer ∷ []
 
 -- A run of a list of calls on a new window over a block: each call is handed what the last one left; these are the answers, and the block at the end;
 -- and every answer is right by the history.

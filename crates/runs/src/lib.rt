@@ -1,31 +1,15 @@
 // Runs of lists of calls on a new window, with the laws on them.
 #![tactic(auto)]
 
-ghost use Rattle.std.specs.Prelude.{◌≡◌, IfOk, OnOk};
+ghost use Rattle.std.specs.Prelude.{◌≡◌, IfOk};
 ghost use Rattle.runs.specs.Guards.{OneRun, OneWrong, Reaches, SealedLinesRight, SealedSamplesWithin};
-ghost use Rattle.runs.specs.Runs.{RunOf, Noted};
+ghost use Rattle.runs.specs.Runs.{RunOf};
 ghost use Rattle.secrecy.specs.Secrecy.{SecrecyStands};
 
 use scheme::Scheme;
 use states::{Answer, Call};
 use std::alloc::{AllocError, Global};
 use window::Window;
-
-// Makes one call and notes its answer after the others.
-fn note<S: Scheme>(
-    window: &mut Window<'_, S>,
-    s: &mut S,
-    call: Call<S::Number>,
-    answers: &mut Vec<Answer>,
-) -> Result<(), AllocError>
-    ensures noted { OnOk result (Noted (S.meaning s.old) window.old.state window.old.block.now answers.old.items call window.new.state window.new.block.now answers.new.items) }
-    ensures frame { S.meaning s.new ≡ S.meaning s.old }
-    ensures lender { window.new.block.ghost_name ≡ window.old.block.ghost_name }
-{
-    let answer = window.call(s, call);
-    answers.push(answer)?;
-    Ok(())
-}
 
 // Makes the calls in order on a new window over the block, and answers what each answered.
 pub fn run<S: Scheme>(
@@ -41,7 +25,8 @@ pub fn run<S: Scheme>(
     let mut window = Window::new(block);
     let mut answers = Vec::new(heap);
     for call in calls {
-        note(&mut window, s, *call, &mut answers)?;
+        let answer = window.call(s, *call);
+        answers.push(answer)?;
     }
     Ok(answers)
 }

@@ -28,6 +28,8 @@ pub enum State {
 // A call of a window, N the hidden numbers.
 #[derive(Clone, Copy)]
 pub enum Call<N> {
+    // Kept: four numbers as they are asked for, here and in `Window::plan`. A struct of them would be no plainer: a second `Plan`, of
+    // which nothing holds.
     Plan {
         method: Method,
         size: u64,

@@ -1,5 +1,4 @@
 pub mod Searching
 pub mod Staging
 pub mod Counting
-pub mod Planning
 pub mod Stepping

@@ -1,4 +1,6 @@
 // The parts of the calls: what each does to the block, and why it is declined.
+// Kept: `kept` beside `block`, and in four contracts the fact that the block has a pair for every place of the plan. A struct of the
+// two would be no plainer: a loan stands in it, so each method that writes would say `lender` of it in place of this fact.
 ghost use Rattle.std.specs.Prelude.{◌≡◌, ◌<◌, ◌≤◌, length};
 ghost use Rattle.states.specs.Step.{progress as progress_of, stages_for};
 ghost use Rattle.window.specs.Parts.{Planning, Checking, Loading, Advancing, Reading, Opening};

@@ -42,6 +42,7 @@ impl<'a, S: Scheme> Window<'a, S> {
     // Any call: what it does depends on the window's state and the call together, and what is not listed is declined with Moment.
     // A declined call changes nothing. The state is copied for the match, and the block is lent once more: the borrow checker covers
     // neither a match on the state behind its reference nor a shared loan through the window's own.
+    #[tactic(auto, using(crate::proofs::Stepping::planned, crate::proofs::Stepping::stages_few))]
     pub fn call(&mut self, s: &mut S, call: Call<S::Number>) -> Answer
         ensures step { Step (S.meaning s.old) self.old.state self.old.block.now call result self.new.state self.new.block.now }
         ensures frame { S.meaning s.new ≡ S.meaning s.old }

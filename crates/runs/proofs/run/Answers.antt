@@ -1,23 +1,20 @@
 use Rattle.std.proofs.Common.{◌≡◌, ◌+◌, ◌<◌, [], ◌∷◌, ◌++◌, length, take, vec_items, sym, ap, ◌∙◌, rules}
 use Rattle.std.proofs.lemmas.List.{take_more, take_all}
 use Rattle.secrecy.proofs.Secrecy.{secrecy_stands}
-use Rattle.runs.specs.Runs.{RunOf, Noted}
+use Rattle.runs.specs.Runs.{RunOf}
 use Rattle.runs.proofs.Running.{SoFar, sofar_more, run_whole, run_ends}
 use Rattle.runs.proofs.run.Goals as goal
 
 -- one call more, under the meaning that the scheme keeps
 pub loop-call-preserved : goal.loop-call-preserved
 loop-call-preserved g c =
-    let frame : g.S.Scheme.meaning c.note.new.s ≡ g.S.Scheme.meaning c.loop-call.s = c.note.ensures.frame in
-    let noted : Noted (g.S.Scheme.meaning c.loop-call.s) c.loop-call.window.state c.loop-call.window.block.now (vec_items c.loop-call.answers) c.call-item.result c.note.new.window.state c.note.new.window.block.now (vec_items c.note.new.answers) =
-    c.in_ok-note.ensures.noted in
-    let answers : vec_items c.note.new.answers ≡ vec_items c.loop-call.answers ++ noted.answer ∷ [] = noted.noted in
+    let frame : g.S.Scheme.meaning c.call-answer.new.s ≡ g.S.Scheme.meaning c.loop-call.s = c.call-answer.ensures.frame in
     let low : c.loop-call.call-index < length c.args.calls.now = search rules in
     let taken : take (c.loop-call.call-index + 1) c.args.calls.now ≡ take c.loop-call.call-index c.args.calls.now ++ c.call-item.result ∷ [] =
     take_more c.args.calls.now c.loop-call.call-index c.call-item.result low ∙ ap (λ x. take c.loop-call.call-index c.args.calls.now ++ x ∷ []) (sym c.call-item.is) in
     let more =
-    sofar_more (g.S.Scheme.meaning c.loop-call.s) c.new-window.result.block.now (take c.loop-call.call-index c.args.calls.now) (vec_items c.loop-call.answers) c.loop-call.window.state c.loop-call.window.block.now c.call-item.result noted.answer c.note.new.window.state c.note.new.window.block.now c.loop-call.invariant.0 noted.step in
-    (rw (frame, taken, answers) more, frame ∙ c.loop-call.invariant.1, c.note.ensures.lender ∙ c.loop-call.invariant.2)
+    sofar_more (g.S.Scheme.meaning c.loop-call.s) c.new-window.result.block.now (take c.loop-call.call-index c.args.calls.now) (vec_items c.loop-call.answers) c.loop-call.window.state c.loop-call.window.block.now c.call-item.result c.call-answer.result c.call-answer.new.self.state c.call-answer.new.self.block.now c.loop-call.invariant.0 c.call-answer.ensures.step in
+    (rw (frame, taken, c.in_ok-push.ensures.items) more, frame ∙ c.loop-call.invariant.1, c.call-answer.ensures.lender ∙ c.loop-call.invariant.2)
 
 -- the whole list, and the block handed back
 pub returns : goal.returns
@@ -33,5 +30,5 @@ returns g c =
     record { run = run_ends whole (search rules); houses = secrecy_stands; frame = frame }
 
 -- where memory fails
-pub returns-in_err-note-clause-houses : goal.returns-in_err-note-clause-houses
-returns-in_err-note-clause-houses g c = secrecy_stands
+pub returns-in_err-push-clause-houses : goal.returns-in_err-push-clause-houses
+returns-in_err-push-clause-houses g c = secrecy_stands
