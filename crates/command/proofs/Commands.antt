@@ -9,10 +9,10 @@ use Rattle.refusal.specs.declared.kinds.Refusal.TheVariants.{Garbled}
 use Rattle.command.specs.declared.kinds.Choice.TheVariants.{Plain, System, Split}
 use Rattle.command.specs.declared.kinds.Command.{Command}
 use Rattle.command.specs.declared.kinds.Command.TheVariants.{Choose, Plan, Load, Begin, Advance, Line, Restart}
-use Rattle.command.specs.Fields.{cut_at, letter_of, numeral_of, number_and_rest, whole_and_rest}
+use Rattle.command.specs.Fields.{cut_at, letter_of, letter_and_rest, numeral_of, number_and_rest, whole_and_rest}
 use Rattle.command.specs.Spelling.{method_letter, Spells, SpelledOnce, Decodes}
-use Rattle.command.specs.Decoding.{also, first_of, fields_of, method_of, alone_of, system_of, choice_by, choice_of, plan_of, load_of, line_of, command_by, command_of}
-use Rattle.command.proofs.Spelled.{also_some, cond_some, letter_from, cut_from, numeral_from, numeral_to, number_then_from, number_then_to, whole_then_from, whole_then_to}
+use Rattle.command.specs.Decoding.{also, first_of, fields_of, method_of, method_by_letter, method_and_rest, alone_of, system_of, choice_by, choice_of, plan_of, load_of, line_of, command_by, command_of}
+use Rattle.command.proofs.Spelled.{also_some, cond_some, letter_from, cut_from, numeral_from, numeral_to, heading_from, number_then_from, number_then_to, whole_then_from, whole_then_to}
 
 -- what is spelled is carried along an equation between commands and lines
 spelled_as : (c d : Command) (line : List ℕ) → Spells c line → c ≡ d → Spells d line
@@ -56,29 +56,29 @@ choice_by_lem kind text c e = elim (cond_some (eqb kind 114) (also (numeral_of t
     at x is h = subst (λ (y : ℕ). Spells c (115 ∷ 44 ∷ y ∷ 44 ∷ text)) (sym (eqb-true kind x is)) h
 
 choice_from : (text : List ℕ) (c : Command) → choice_of text ≡ Some c → Spells c (115 ∷ 44 ∷ text)
-unfolding choice_of
+unfolding choice_of letter_and_rest
 choice_from text c e =
-    let p = also_some (cut_at 44 text) (λ q. also (letter_of q.0) (λ kind. choice_by kind q.1)) c e in
-    let k = also_some (letter_of p.0.0) (λ kind. choice_by kind p.0.1) c p.2 in
-    let whole : text ≡ k.0 ∷ 44 ∷ p.0.1 = cut_from 44 text p.0 p.1 ∙ ap (λ (a : List ℕ). a ++ 44 ∷ p.0.1) (letter_from p.0.0 k.0 k.1) in
-    subst (λ (t : List ℕ). Spells c (115 ∷ 44 ∷ t)) (sym whole) (choice_by_lem k.0 p.0.1 c k.2)
+    let k = also_some (letter_and_rest text) (λ kind. choice_by kind.0 kind.1) c e in
+    let found = heading_from letter_of text k.0 k.1 in
+    let whole : text ≡ k.0.0 ∷ 44 ∷ k.0.1 = found.2 ∙ ap (λ (a : List ℕ). a ++ 44 ∷ k.0.1) (letter_from found.0 k.0.0 found.1) in
+    subst (λ (t : List ℕ). Spells c (115 ∷ 44 ∷ t)) (sym whole) (choice_by_lem k.0.0 k.0.1 c k.2)
 
 plan_from : (text : List ℕ) (c : Command) → plan_of text ≡ Some c → Spells c (112 ∷ 44 ∷ text)
-unfolding plan_of
+unfolding plan_of method_and_rest
 plan_from text c e =
-    let p = also_some (cut_at 44 text) (λ p. also (letter_of p.0) (λ x. also (method_of x) (λ k. also (number_and_rest p.1) (λ a. also (number_and_rest a.1) (λ b. also (numeral_of b.1) (λ q. Some (Plan k a.0 b.0 q))))))) c e in
-    let x = also_some (letter_of p.0.0) (λ x. also (method_of x) (λ k. also (number_and_rest p.0.1) (λ a. also (number_and_rest a.1) (λ b. also (numeral_of b.1) (λ q. Some (Plan k a.0 b.0 q)))))) c p.2 in
-    let k = also_some (method_of x.0) (λ k. also (number_and_rest p.0.1) (λ a. also (number_and_rest a.1) (λ b. also (numeral_of b.1) (λ q. Some (Plan k a.0 b.0 q))))) c x.2 in
-    let a = also_some (number_and_rest p.0.1) (λ a. also (number_and_rest a.1) (λ b. also (numeral_of b.1) (λ q. Some (Plan k.0 a.0 b.0 q)))) c k.2 in
-    let b = also_some (number_and_rest a.0.1) (λ b. also (numeral_of b.1) (λ q. Some (Plan k.0 a.0.0 b.0 q))) c a.2 in
-    let q = also_some (numeral_of b.0.1) (λ q. Some (Plan k.0 a.0.0 b.0.0 q)) c b.2 in
-    let one = number_then_from p.0.1 a.0 a.1 in
+    let k = also_some (method_and_rest text) (λ k. also (number_and_rest k.1) (λ a. also (number_and_rest a.1) (λ b. also (numeral_of b.1) (λ q. Some (Plan k.0 a.0 b.0 q))))) c e in
+    let a = also_some (number_and_rest k.0.1) (λ a. also (number_and_rest a.1) (λ b. also (numeral_of b.1) (λ q. Some (Plan k.0.0 a.0 b.0 q)))) c k.2 in
+    let b = also_some (number_and_rest a.0.1) (λ b. also (numeral_of b.1) (λ q. Some (Plan k.0.0 a.0.0 b.0 q))) c a.2 in
+    let q = also_some (numeral_of b.0.1) (λ q. Some (Plan k.0.0 a.0.0 b.0.0 q)) c b.2 in
+    let named = heading_from method_by_letter text k.0 k.1 in
+    let x = also_some (letter_of named.0) method_of k.0.0 named.1 in
+    let one = number_then_from k.0.1 a.0 a.1 in
     let two = number_then_from a.0.1 b.0 b.1 in
     let three = numeral_from b.0.1 q.0 q.1 in
-    let method : p.0.0 ≡ method_letter k.0 = letter_from p.0.0 x.0 x.1 ∙ method_from x.0 k.0 k.1 in
-    let rest : p.0.1 ≡ one.0 ++ 44 ∷ (two.0 ++ 44 ∷ b.0.1) = one.2 ∙ ap (λ (t : List ℕ). one.0 ++ 44 ∷ t) two.2 in
-    let whole : text ≡ method_letter k.0 ++ 44 ∷ (one.0 ++ 44 ∷ (two.0 ++ 44 ∷ b.0.1)) = cut_from 44 text p.0 p.1 ∙ (ap (λ (t : List ℕ). t ++ 44 ∷ p.0.1) method ∙ ap (λ (t : List ℕ). method_letter k.0 ++ 44 ∷ t) rest) in
-    spelled_as (Plan k.0 a.0.0 b.0.0 q.0) c (112 ∷ 44 ∷ text) (one.0, two.0, b.0.1, one.1, two.1, three, ap (λ (t : List ℕ). 112 ∷ 44 ∷ t) whole) (same_Some _ _ q.2)
+    let method : named.0 ≡ method_letter k.0.0 = letter_from named.0 x.0 x.1 ∙ method_from x.0 k.0.0 x.2 in
+    let rest : k.0.1 ≡ one.0 ++ 44 ∷ (two.0 ++ 44 ∷ b.0.1) = one.2 ∙ ap (λ (t : List ℕ). one.0 ++ 44 ∷ t) two.2 in
+    let whole : text ≡ method_letter k.0.0 ++ 44 ∷ (one.0 ++ 44 ∷ (two.0 ++ 44 ∷ b.0.1)) = named.2 ∙ (ap (λ (t : List ℕ). t ++ 44 ∷ k.0.1) method ∙ ap (λ (t : List ℕ). method_letter k.0.0 ++ 44 ∷ t) rest) in
+    spelled_as (Plan k.0.0 a.0.0 b.0.0 q.0) c (112 ∷ 44 ∷ text) (one.0, two.0, b.0.1, one.1, two.1, three, ap (λ (t : List ℕ). 112 ∷ 44 ∷ t) whole) (same_Some _ _ q.2)
 
 load_from : (text : List ℕ) (c : Command) → load_of text ≡ Some c → Spells c (108 ∷ 44 ∷ text)
 unfolding load_of
@@ -157,7 +157,7 @@ command_from line c e =
 
 -- and back: what is spelled is read
 pub command_to : (c : Command) (line : List ℕ) → Spells c line → command_of line ≡ Some c
-unfolding command_of command_by choice_of choice_by system_of plan_of load_of cut_at
+unfolding command_of command_by choice_of choice_by letter_and_rest system_of plan_of method_and_rest load_of cut_at
 command_to (Choose (Plain n)) line (a, h, e) = ap command_of e ∙ (rw (numeral_to a n h))
 command_to (Choose (System p q r)) line (a, b, d, one, two, three, e) = ap command_of e ∙ (rw (number_then_to a (b ++ 44 ∷ d) p one, number_then_to b d q two, numeral_to d r three))
 command_to (Choose (Split n)) line (a, h, e) = ap command_of e ∙ (rw (numeral_to a n h))

@@ -138,7 +138,7 @@ cut_whole a rest z (inl (n, h, e)) = cut_digits a rest h.digits
 cut_whole a rest z (inr (n, ds, h, t, e)) = rw t (cut_minus ds rest h.digits)
 
 -- a field and the rest
-heading_from : {A : Type 0} (reads : List ℕ → Option A) (text : List ℕ) (x : A × List ℕ) → heading reads (cut_at 44 text) ≡ Some x → (a : List ℕ) × (reads a ≡ Some x.0) × (text ≡ a ++ 44 ∷ x.1)
+pub heading_from : {A : Type 0} (reads : List ℕ → Option A) (text : List ℕ) (x : A × List ℕ) → heading reads (cut_at 44 text) ≡ Some x → (a : List ℕ) × (reads a ≡ Some x.0) × (text ≡ a ++ 44 ∷ x.1)
 heading_from {A} reads text x e = heading_by (cut_at 44 text) refl e
   where
     beside_from : (o : Option A) (rest : List ℕ) → beside o rest ≡ Some x → (o ≡ Some x.0) × (rest ≡ x.1)

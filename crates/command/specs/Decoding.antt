@@ -6,7 +6,7 @@ use Rattle.plan.specs.declared.method.Method.TheVariants.{Direct, Radix2, Radix4
 use Rattle.command.specs.declared.kinds.Choice.TheVariants.{Plain, System, Split}
 use Rattle.command.specs.declared.kinds.Command.{Command}
 use Rattle.command.specs.declared.kinds.Command.TheVariants.{Choose, Plan, Load, Begin, Advance, Line, Restart}
-use Rattle.command.specs.Fields.{cut_at, letter_of, numeral_of, number_and_rest, whole_and_rest}
+use Rattle.command.specs.Fields.{cut_at, letter_of, heading, letter_and_rest, numeral_of, number_and_rest, whole_and_rest}
 
 -- what follows a value, where there is one
 abbrev pub also : {A B : Type 0} → Option A → (A → Option B) → Option B
@@ -24,6 +24,14 @@ fields_of line = first_of line (cut_at 44 line)
 abbrev pub method_of : ℕ → Option Method
 method_of c = cond (c == 100) (Some Direct) (cond (c == 50) (Some Radix2) (cond (c == 52) (Some Radix4) None))
 
+-- the method that a field names by its letter
+abbrev pub method_by_letter : List ℕ → Option Method
+method_by_letter field = also (letter_of field) method_of
+
+-- a method, a comma and the rest
+unfoldable pub method_and_rest : List ℕ → Option (Method × List ℕ)
+method_and_rest text = heading method_by_letter (cut_at 44 text)
+
 abbrev pub alone_of : Command → Option (List ℕ) → Option Command
 alone_of c None = Some c
 alone_of c (Some rest) = None
@@ -35,10 +43,10 @@ unfoldable pub choice_by : ℕ → List ℕ → Option Command
 choice_by kind text = cond (kind == 114) (also (numeral_of text) (λ n. Some (Choose (Plain n)))) (cond (kind == 121) (system_of text) (cond (kind == 112) (also (numeral_of text) (λ n. Some (Choose (Split n)))) None))
 
 unfoldable pub choice_of : List ℕ → Option Command
-choice_of text = also (cut_at 44 text) (λ p. also (letter_of p.0) (λ kind. choice_by kind p.1))
+choice_of text = also (letter_and_rest text) (λ kind. choice_by kind.0 kind.1)
 
 unfoldable pub plan_of : List ℕ → Option Command
-plan_of text = also (cut_at 44 text) (λ p. also (letter_of p.0) (λ c. also (method_of c) (λ k. also (number_and_rest p.1) (λ a. also (number_and_rest a.1) (λ b. also (numeral_of b.1) (λ q. Some (Plan k a.0 b.0 q)))))))
+plan_of text = also (method_and_rest text) (λ k. also (number_and_rest k.1) (λ a. also (number_and_rest a.1) (λ b. also (numeral_of b.1) (λ q. Some (Plan k.0 a.0 b.0 q)))))
 
 unfoldable pub load_of : List ℕ → Option Command
 load_of text = also (number_and_rest text) (λ n. also (whole_and_rest n.1) (λ x. also (whole_and_rest x.1) (λ y. also (number_and_rest y.1) (λ a. also (numeral_of a.1) (λ b. Some (Load n.0 (complex x.0 y.0) (a.0, b)))))))

@@ -58,6 +58,10 @@ abbrev pub heading : {A : Type 0} → (List ℕ → Option A) → Option (List �
 heading reads None = None
 heading reads (Some p) = beside (reads p.0) p.1
 
+-- a letter, a comma and the rest
+unfoldable pub letter_and_rest : List ℕ → Option (ℕ × List ℕ)
+letter_and_rest text = heading letter_of (cut_at 44 text)
+
 -- a numeral, a comma and the rest
 unfoldable pub number_and_rest : List ℕ → Option (ℕ × List ℕ)
 number_and_rest text = heading numeral_of (cut_at 44 text)

@@ -1,10 +1,10 @@
 // From a line to the command that it spells.
 ghost use Rattle.std.specs.Prelude.{◌≡◌, Some, None};
 ghost use Rattle.std.specs.Option.{option_map};
-ghost use Rattle.command.specs.Decoding.{fields_of, method_of, alone_of, system_of, choice_of, plan_of, load_of, line_of, command_of};
+ghost use Rattle.command.specs.Decoding.{fields_of, method_by_letter, alone_of, system_of, choice_of, plan_of, load_of, line_of, command_of};
 ghost use Rattle.command.specs.Spelling.{Decodes, SpelledOnce};
 
-use crate::fields::{FromField, cut, letter, value_then};
+use crate::fields::{FromField, cut, value_then};
 use crate::kinds::{Choice, Command};
 use integers::Complex;
 use plan::Method;
@@ -17,15 +17,17 @@ fn first_field(line: &[u8]) -> (&[u8], Option<&[u8]>)
     cut(line, b',').map_or((line, None), |(first, rest)| (first, Some(rest)))
 }
 
-// The method of a letter.
-fn read_method(letter: char) -> Option<Method>
-    ensures { result ≡ method_of letter }
-{
-    match letter {
-        'd' => Some(Method::Direct),
-        '2' => Some(Method::Radix2),
-        '4' => Some(Method::Radix4),
-        _ => None,
+// A method, by its letter.
+impl FromField for Method {
+    ghost value_of = { method_by_letter };
+
+    fn from_field(field: &[u8]) -> Option<Method> {
+        match char::from_field(field)? {
+            'd' => Some(Method::Direct),
+            '2' => Some(Method::Radix2),
+            '4' => Some(Method::Radix4),
+            _ => None,
+        }
     }
 }
 
@@ -52,12 +54,12 @@ fn read_system(text: &[u8]) -> Option<Command>
 }
 
 // The letter of a scheme and its moduli.
-#[tactic(auto, unfolding(crate::specs::Decoding::choice_of, crate::specs::Decoding::choice_by))]
+#[tactic(auto, unfolding(crate::specs::Decoding::choice_of, crate::specs::Fields::letter_and_rest, crate::specs::Decoding::choice_by))]
 fn read_choice(text: &[u8]) -> Option<Command>
     ensures { result ≡ choice_of text.now }
 {
-    let (kind, text) = cut(text, b',')?;
-    match letter(kind)? {
+    let (kind, text) = value_then(text)?;
+    match kind {
         'r' => u64::from_field(text).map(|modulus| Command::Choose(Choice::Plain { modulus })),
         'y' => read_system(text),
         'p' => u64::from_field(text).map(|modulus| Command::Choose(Choice::Split { modulus })),
@@ -66,12 +68,11 @@ fn read_choice(text: &[u8]) -> Option<Command>
 }
 
 // The letter of a method, the size and the two scales.
-#[tactic(auto, unfolding(crate::specs::Decoding::plan_of, crate::specs::Fields::number_and_rest))]
+#[tactic(auto, unfolding(crate::specs::Decoding::plan_of, crate::specs::Decoding::method_and_rest, crate::specs::Fields::number_and_rest))]
 fn read_plan(text: &[u8]) -> Option<Command>
     ensures { result ≡ plan_of text.now }
 {
-    let (kind, text) = cut(text, b',')?;
-    let method = read_method(letter(kind)?)?;
+    let (method, text) = value_then(text)?;
     let (size, text) = value_then(text)?;
     let (sample_scale, text) = value_then(text)?;
     let twiddle_scale = u64::from_field(text)?;
@@ -113,7 +114,7 @@ fn read_command(text: &[u8]) -> Option<Command>
     ensures { result ≡ command_of text.now }
 {
     let (first, rest) = first_field(text);
-    match letter(first)? {
+    match char::from_field(first)? {
         's' => read_choice(rest?),
         'p' => read_plan(rest?),
         'l' => read_load(rest?),

@@ -14,16 +14,6 @@ pub(crate) fn cut(text: &[u8], separator: u8) -> Option<(&[u8], &[u8])>
     Some((&text[..at], &text[at + 1..]))
 }
 
-// The one character of a field.
-pub(crate) fn letter(field: &[u8]) -> Option<char>
-    ensures { result ≡ letter_of field.now }
-{
-    match field {
-        [b] => Some(char::from(*b)),
-        _ => None,
-    }
-}
-
 // n with one more decimal digit, or none where the byte is no digit or the number is too large for the type.
 fn with_digit(n: u64, byte: &u8) -> Option<u64>
     ensures { result ≡ digit_after n byte.now }
@@ -39,6 +29,18 @@ pub(crate) trait FromField: Sized {
     // The value that the field writes, where it writes one.
     fn from_field(field: &[u8]) -> Option<Self>
         ensures { result ≡ value_of field.now };
+}
+
+// The one character of a field.
+impl FromField for char {
+    ghost value_of = { letter_of };
+
+    fn from_field(field: &[u8]) -> Option<char> {
+        match field {
+            [b] => Some(char::from(*b)),
+            _ => None,
+        }
+    }
 }
 
 // A numeral: 1 to 19 decimal digits that write a number up to 2^62.

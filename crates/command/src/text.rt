@@ -19,20 +19,18 @@ impl fmt::Display for Answer {
     fn fmt<W: fmt::Write>(&self, f: &mut fmt::Formatter<W>) -> fmt::Result {
         match self.answer {
             Ok(None) => write!(f, "ok"),
-            Ok(Some(line)) => {
-                let Line {
-                    index,
-                    re,
-                    im,
-                    scale,
-                    distance,
-                } = line;
-                write!(f, "g,{index},{re},{im},{scale},{distance}")
-            }
-            Err(refusal) => {
-                let number = refusal.number();
-                write!(f, "no,{number}")
-            }
+            Ok(
+                Some(
+                    Line {
+                        index,
+                        re,
+                        im,
+                        scale,
+                        distance,
+                    },
+                ),
+            ) => write!(f, "g,{index},{re},{im},{scale},{distance}"),
+            Err(refusal) => write!(f, "no,{}", refusal.number()),
         }
     }
 }

@@ -81,9 +81,7 @@ const REFUSALS: [(Refusal, &str); 15] = [
 fn print_refusals(rt: &impl Print) -> io::Result<()> {
     println!(rt; "Refusals, the earliest that applies:\n")?;
     for (refusal, when) in REFUSALS {
-        let number = refusal.number();
-        let word = refusal.word();
-        println!(rt; "  {number:>2}  {word:<14}  {when}")?;
+        println!(rt; "  {:>2}  {:<14}  {when}", refusal.number(), refusal.word())?;
     }
     Ok(())
 }

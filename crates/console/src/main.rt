@@ -3,7 +3,7 @@
 
 mod help;
 
-use anyhow::anyhow;
+use anyhow::ensure;
 use session::{LIMIT, reply};
 use std::env;
 use std::io::Read;
@@ -20,17 +20,15 @@ fn serve(rt: &HostRuntime) -> anyhow::Result<()> {
 
 // Serves the input, or does what the arguments ask for.
 fn run(rt: &HostRuntime) -> anyhow::Result<()> {
-    let mut arguments = env::args(rt)?;
-    let _ = arguments.next();
+    let mut arguments = env::args(rt)?.skip(1);
     let Some(first) = arguments.next() else {
         return serve(rt);
     };
-    if first.as_str() == "--help" && arguments.next().is_none() {
-        return help::print(rt);
-    }
-    Err(anyhow!(
+    ensure!(
+        first.as_str() == "--help" && arguments.next().is_none(),
         "console takes no arguments but --help, alone; commands are read from standard input"
-    ))
+    );
+    help::print(rt)
 }
 
 fn main(rt: HostRuntime) -> anyhow::Result<()> {

@@ -20,9 +20,6 @@ module _ {F : Type 0} (step : F → Decoded → ControlFlow Chosen Answer → F 
     pub answers : rs ≡ before ++ added
     pub turns : (later : List Answer) (next : Option Chosen) → Answered step f (drop i ds) later next → Answered step start ds (added ++ later) next
 
-  pub progress_none : Progress start 0 before
-  progress_none = record { added = []; answers = sym (append-nil before); turns = λ later next h. h }
-
   pub progress_more : (f g : F) (i : ℕ) (rs : List Answer) → Progress f i rs → (d : Decoded) → i < length ds → (a : Answer) → step f (get_or ds i d) (Continue a) g → Progress g (i + 1) (rs ++ a ∷ [])
   progress_more f g i rs h d low a turn = record {
     added = h.added ++ a ∷ [];
