@@ -6,7 +6,7 @@ pub returns-in_err-first_to_second : goal.returns-in_err-first_to_second
 returns-in_err-first_to_second c =
     let p : c.in_ok-first.first.n ≡ c.args.first = search rules in
     let q : c.in_ok-second.second.n ≡ c.args.second = search rules in
-    let h : Coprime c.args.first c.args.second → ⊥ = rw (p, q) at c.in_err-first_to_second.ensures in
+    let h : Coprime c.args.first c.args.second → ⊥ = simp (p, q) at c.in_err-first_to_second.ensures in
     let none : Lawful c.args.first c.args.second c.args.third → ⊥ = λ l. h l.one_two in
     search (rules, none)
 
@@ -14,7 +14,7 @@ pub returns-in_err-first_to_third : goal.returns-in_err-first_to_third
 returns-in_err-first_to_third c =
     let p : c.in_ok-first.first.n ≡ c.args.first = search rules in
     let r : c.in_ok-third.third.n ≡ c.args.third = search rules in
-    let h : Coprime c.args.first c.args.third → ⊥ = rw (p, r) at c.in_err-first_to_third.ensures in
+    let h : Coprime c.args.first c.args.third → ⊥ = simp (p, r) at c.in_err-first_to_third.ensures in
     let none : Lawful c.args.first c.args.second c.args.third → ⊥ = λ l. h l.one_three in
     search (rules, none)
 
@@ -22,7 +22,7 @@ pub returns-in_err-second_to_third : goal.returns-in_err-second_to_third
 returns-in_err-second_to_third c =
     let q : c.in_ok-second.second.n ≡ c.args.second = search rules in
     let r : c.in_ok-third.third.n ≡ c.args.third = search rules in
-    let h : Coprime c.args.second c.args.third → ⊥ = rw (q, r) at c.in_err-second_to_third.ensures in
+    let h : Coprime c.args.second c.args.third → ⊥ = simp (q, r) at c.in_err-second_to_third.ensures in
     let none : Lawful c.args.first c.args.second c.args.third → ⊥ = λ l. h l.two_three in
     search (rules, none)
 
@@ -36,9 +36,9 @@ returns c =
         one = c.in_ok-first.ensures.0;
         two = c.in_ok-second.ensures.0;
         three = c.in_ok-third.ensures.0;
-        one_two = rw (p, q) at c.in_ok-first_to_second.ensures.coprime;
-        one_three = rw (p, r) at c.in_ok-first_to_third.ensures.coprime;
-        two_three = rw (q, r) at c.in_ok-second_to_third.ensures.coprime;
+        one_two = simp (p, q) at c.in_ok-first_to_second.ensures.coprime;
+        one_three = simp (p, r) at c.in_ok-first_to_third.ensures.coprime;
+        two_three = simp (q, r) at c.in_ok-second_to_third.ensures.coprime;
       };
       one = p;
       two = q;
