@@ -13,7 +13,8 @@ use scheme::{Scheme, pairs};
 
 // A scheme with the butterfly of radix R: each of R pairs becomes the sum of all of them, turned by powers of −j.
 pub(crate) trait Radix<const R: usize>: Scheme {
-    // The butterfly in place, on the pairs at first, first + span, .., first + (R − 1)·span.
+    // The butterfly in place, on the pairs at first, first + span, .., first + (R − 1)·span. Tried with an array of R pairs, and the proof
+    // didn't close: no impl fits a const parameter in the signature, and a call owes that the array's size is below 2^63.
     fn butterfly(&mut self, first: usize, span: usize, block: &mut [(Self::Number, Self::Number)])
         requires apart { 0 < span }
         requires within { first + (R - 1) * span < length block.old }
@@ -106,6 +107,7 @@ impl<const R: usize> Butterfly<R> {
         ensures frame { S.meaning s.new ≡ S.meaning s.old }
     {
         let first = self.group * (R * self.span) + self.k;
+        // By number: tried with iter_mut().step_by(span), and the proof didn't close, since after it no pair of the block is known.
         for i in 0..R {
             let place = first + i * self.span;
             block[place] = self.weighted(s, i, block[place]);

@@ -23,6 +23,7 @@ fn cross_all<S: Radix<R>, const R: usize>(
     ensures made { (t : ℕ) → span ≡ R ^ t → Making (S.meaning s.old) scale R t groups (groups * span) block.old block.new }
     ensures frame { S.meaning s.new ≡ S.meaning s.old }
 {
+    // By number: tried with chunks_exact_mut, and the proof didn't close, since after it no pair of the block is known.
     for group in 0..groups {
         for k in 0..span {
             let butterfly = Butterfly::<R> {
