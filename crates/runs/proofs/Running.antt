@@ -58,10 +58,6 @@ answers_more : {N : Type 0} (ts : List (After N)) (t : After N) → answers_of (
 answers_more [] t = refl
 answers_more (u ∷ ts) t = ap (λ (rs : Answers). u.answer ∷ rs) (answers_more ts t)
 
--- no call so far
-pub sofar_none : {N : Type 0} (m : Meaning N) (start : Pairs N) → SoFar m start [] [] Idle start
-sofar_none m start = record { after = []; runs = (refl, refl); answers = refl }
-
 -- one call more
 pub sofar_more : {N : Type 0} (m : Meaning N) (start : Pairs N) (cs : List (Call N)) (rs : Answers) (st : State) (bl : Pairs N) (c : Call N) (a : Result (Option Line) Refusal) (st' : State) (bl' : Pairs N) → SoFar m start cs rs st bl → Step m st bl c a st' bl' → SoFar m start (cs ++ c ∷ []) (rs ++ a ∷ []) st' bl'
 sofar_more m start cs rs st bl c a st' bl' h step =

@@ -1,5 +1,7 @@
 -- Blocks that a house cannot tell apart: at every place its halves are equal, and the pairs are both well formed or both not.
 use Rattle.std.proofs.Common.{◌≡◌, ℕ, zero, suc, ◌+◌, ◌<◌, ◌≤◌, Bool, true, false, cond, List, [], ◌∷◌, map, length, get_or, set, Some, None, Option, sym, refl, ap, ◌∙◌, ap₂, arith, ext_get_or}
+use Rattle.std.proofs.lemmas.List.{length-map, map-set}
+use Rattle.std.proofs.lemmas.Simd.{map-map}
 use borrow.Author.Tests.{clash}
 use lib.ListN.{get_or-map}
 use Rattle.scheme.specs.Meaning.{Meaning}
@@ -30,33 +32,18 @@ known n h x = (halves h x, well_formed (shares n) x)
 abbrev pub Alike : ℕ → Bool → Pairs (Halves ℕ) → Pairs (Halves ℕ) → Type 0
 Alike n h xs ys = map (known n h) xs ≡ map (known n h) ys
 
-module _ {A B C : Type 0} where
-  pub map_over : (f : A → B) (g : B → C) (xs : List A) → map g (map f xs) ≡ map (λ x. g (f x)) xs
-  map_over f g [] = refl
-  map_over f g (x ∷ xs) = ap (λ ys. g (f x) ∷ ys) (map_over f g xs)
-
-module _ {A B : Type 0} where
-  pub map_length : (f : A → B) (xs : List A) → length (map f xs) ≡ length xs
-  map_length f [] = refl
-  map_length f (x ∷ xs) = ap suc (map_length f xs)
-
-  pub map_set : (f : A → B) (xs : List A) (i : ℕ) (x : A) → map f (set xs i x) ≡ set (map f xs) i (f x)
-  map_set f [] i x = refl
-  map_set f (y ∷ ys) zero x = refl
-  map_set f (y ∷ ys) (suc i) x = ap (λ zs. f y ∷ zs) (map_set f ys i x)
-
 module _ (n : ℕ) (h : Bool) where
   pub alike_length : (xs ys : Pairs (Halves ℕ)) → Alike n h xs ys → length xs ≡ length ys
-  alike_length xs ys e = sym (map_length (known n h) xs) ∙ ap length e ∙ map_length (known n h) ys
+  alike_length xs ys e = sym (length-map xs (known n h)) ∙ ap length e ∙ length-map ys (known n h)
 
   pub alike_held : (xs ys : Pairs (Halves ℕ)) → Alike n h xs ys → map (halves h) xs ≡ map (halves h) ys
-  alike_held xs ys e = sym (map_over (known n h) (λ (k : Known). k.0) xs) ∙ ap (map (λ (k : Known). k.0)) e ∙ map_over (known n h) (λ (k : Known). k.0) ys
+  alike_held xs ys e = sym (map-map (λ (k : Known). k.0) (known n h) xs) ∙ ap (map (λ (k : Known). k.0)) e ∙ map-map (λ (k : Known). k.0) (known n h) ys
 
   pub alike_formed : (xs ys : Pairs (Halves ℕ)) → Alike n h xs ys → (i : ℕ) → is_well_formed_at (shares n) xs i ≡ is_well_formed_at (shares n) ys i
   unfolding is_well_formed_at
   alike_formed xs ys e i =
       ap (λ (bs : List Bool). get_or bs i false)
-      (sym (map_over (known n h) (λ (k : Known). k.1) xs) ∙ ap (map (λ (k : Known). k.1)) e ∙ map_over (known n h) (λ (k : Known). k.1) ys)
+      (sym (map-map (λ (k : Known). k.1) (known n h) xs) ∙ ap (map (λ (k : Known). k.1)) e ∙ map-map (λ (k : Known). k.1) (known n h) ys)
 
   pub alike_at : (xs ys : Pairs (Halves ℕ)) → Alike n h xs ys → (i : ℕ) (d : Pair) → known n h (get_or xs i d) ≡ known n h (get_or ys i d)
   alike_at xs ys e i d =
@@ -64,12 +51,12 @@ module _ (n : ℕ) (h : Bool) where
 
   pub alike_of : (xs ys : Pairs (Halves ℕ)) (d : Pair) → length xs ≡ length ys → ((i : ℕ) → i < length xs → known n h (get_or xs i d) ≡ known n h (get_or ys i d)) → Alike n h xs ys
   alike_of xs ys d e f =
-      ext_get_or (known n h d) (map (known n h) xs) (map (known n h) ys) (map_length (known n h) xs ∙ e ∙ sym (map_length (known n h) ys))
-      (λ i b. let c : i < length xs = omega (arith, map_length (known n h) xs) in get_or-map (known n h) xs i d ∙ f i c ∙ sym (get_or-map (known n h) ys i d))
+      ext_get_or (known n h d) (map (known n h) xs) (map (known n h) ys) (length-map xs (known n h) ∙ e ∙ sym (length-map ys (known n h)))
+      (λ i b. let c : i < length xs = omega (arith, length-map xs (known n h)) in get_or-map (known n h) xs i d ∙ f i c ∙ sym (get_or-map (known n h) ys i d))
 
   pub alike_set : (xs ys : Pairs (Halves ℕ)) (i : ℕ) (x y : Pair) → Alike n h xs ys → known n h x ≡ known n h y → Alike n h (set xs i x) (set ys i y)
   alike_set xs ys i x y e k =
-      map_set (known n h) xs i x ∙ ap₂ (λ (ks : List Known) (z : Known). set ks i z) e k ∙ sym (map_set (known n h) ys i y)
+      map-set (known n h) xs i x ∙ ap₂ (λ (ks : List Known) (z : Known). set ks i z) e k ∙ sym (map-set (known n h) ys i y)
 
   alike_from : (xs ys : Pairs (Halves ℕ)) → Alike n h xs ys → (i k : ℕ) → malformed_from (shares n) xs i k ≡ malformed_from (shares n) ys i k
   alike_from xs ys e i zero = refl
