@@ -94,6 +94,7 @@ fn read_load(text: &[u8]) -> Option<Command>
     let (im, text) = value_then(text)?;
     let (first, text) = value_then(text)?;
     let second = u64::from_field(text)?;
+    // `as`, since no From leads from u64 to usize, and a try_from would answer an error that cannot come.
     Some(Command::Load {
         n: n as usize,
         sample: Complex { re, im },

@@ -1,6 +1,6 @@
 -- Lines answered one after another by their turns, and what that comes to for the console.
-use Rattle.std.proofs.Common.{◌≡◌, ℕ, ◌+◌, ◌<◌, ◌≤◌, List, [], ◌∷◌, ◌++◌, length, get_or, take, drop, Some, None, Ok, Option, ControlFlow, Continue, Break, sym, refl, ap, ◌∙◌, subst, inl, inr, append_assoc, arith, length-append, length-drop}
-use Rattle.std.proofs.lemmas.List.{append-nil, drop_more, drop_all, take_all, length_push}
+use Rattle.std.proofs.Common.{◌≡◌, ℕ, ◌+◌, ◌-◌, ◌<◌, ◌≤◌, List, [], ◌∷◌, ◌++◌, length, get_or, take, drop, Some, None, Ok, Option, ControlFlow, Continue, Break, sym, refl, ap, ◌∙◌, subst, inl, inr, append_assoc, arith, length-append, length-drop}
+use Rattle.std.proofs.lemmas.List.{append-nil, drop_more, drop_all, take_all, length_push, take_rest}
 use Rattle.command.specs.declared.kinds.Choice.{Choice}
 use Rattle.command.specs.declared.kinds.Command.TheVariants.{Choose}
 use Rattle.session.specs.declared.schemes.Chosen.{Chosen}
@@ -12,6 +12,10 @@ use Rattle.states.specs.Step.{Pairs}
 use Rattle.session.specs.Session.{Decoded, Answer, Console, absent, Turn, Turns}
 use Rattle.session.specs.Serving.{Makes, Turning, TurningAbsent, ReadyFor, Served, Answered, AnsweredBy, More, ServedFrom, ServedAbsent}
 use Rattle.session.proofs.Phases.{turns_next, ready_chosen}
+
+-- the lines that have no answer yet
+pub lines_left : (ds : List Decoded) (n : ℕ) (rs : List Answer) → n ≡ length rs → take (length ds - n) (drop n ds) ≡ drop (length rs) ds
+lines_left ds n rs e = take_rest ds n ∙ ap (λ (k : ℕ). drop k ds) e
 
 module _ {F : Type 0} (step : F → Decoded → ControlFlow Chosen Answer → F → Type 0) (start : F) (ds : List Decoded) (before : List Answer) where
   -- the lines answered so far

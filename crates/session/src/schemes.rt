@@ -2,7 +2,8 @@
 use plain::Plain;
 use system::System;
 
-// A scheme that was chosen: plain residues, a residue system, or the split over plain residues.
+// A scheme that was chosen: plain residues, a residue system, or the split over plain residues. An enum and no dyn: each scheme has
+// hidden numbers of its own type, and a function that hands out a dyn is refused.
 #[derive(Clone, Copy)]
 pub enum Chosen {
     Plain(Plain),

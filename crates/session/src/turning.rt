@@ -42,7 +42,7 @@ fn load<S: Scheme>(
     window.load(s, n, pair)
 }
 
-// The choice of a scheme: the scheme, or the answer that declines it.
+// The choice of a scheme: the scheme, or the answer that declines it. A match, since map_or_else over two constructors is no plainer.
 fn choose(choice: Choice) -> ControlFlow<Chosen, Answer>
     ensures { Choosing choice result }
 {
@@ -86,7 +86,8 @@ pub(crate) fn turn<S: Scheme>(
     }
 }
 
-// One line where there is no window yet: a scheme may be chosen, any other command is declined with Moment.
+// One line where there is no window yet: a scheme may be chosen, any other command is declined with Moment. Two arms are those of turn:
+// one function that takes the answer of a command as a closure is no plainer, since its match would name the choice a second time.
 pub(crate) fn turn_absent(line: Result<Command, Refusal>) -> ControlFlow<Chosen, Answer>
     ensures { TurningAbsent line result }
 {

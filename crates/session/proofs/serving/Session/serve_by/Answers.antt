@@ -1,7 +1,6 @@
 use Rattle.std.proofs.Common.{◌≡◌, ◌-◌, List, [], ◌∷◌, ◌++◌, drop, take, length, None, Ok, vec_items, ap, ◌∙◌, append_assoc, arith, of_calls, length-drop}
-use Rattle.std.proofs.lemmas.List.{take_rest}
 use Rattle.session.specs.Session.{Answer, Decoded}
-use Rattle.session.proofs.Answering.{progress_more, progress_chosen, progress_all}
+use Rattle.session.proofs.Answering.{lines_left, progress_more, progress_chosen, progress_all}
 use Rattle.session.proofs.serving.Session.serve_by.Goals as goal
 
 pub returns-in-Break : goal.returns-in-Break
@@ -9,7 +8,7 @@ returns-in-Break g c =
     let lines : List Decoded = c.args.self.now.lines.now in
     let before : List Answer = vec_items c.args.self.now.answers in
     let from : c.len.result ≡ length before = cc in
-    let same : take (length lines - c.len.result) (drop c.len.result lines) ≡ drop (length before) lines = take_rest lines c.len.result ∙ ap (λ n. drop n lines) from in
+    let same : take (length lines - c.len.result) (drop c.len.result lines) ≡ drop (length before) lines = lines_left lines c.len.result before from in
     let so_far = c.loop-line.invariant.progress in
     record {
       lines = c.loop-line.invariant.lines;
@@ -23,7 +22,7 @@ loop-line-preserved g c =
     let lines : List Decoded = c.args.self.now.lines.now in
     let before : List Answer = vec_items c.args.self.now.answers in
     let from : c.len.result ≡ length before = cc in
-    let same : take (length lines - c.len.result) (drop c.len.result lines) ≡ drop (length before) lines = take_rest lines c.len.result ∙ ap (λ n. drop n lines) from in
+    let same : take (length lines - c.len.result) (drop c.len.result lines) ≡ drop (length before) lines = lines_left lines c.len.result before from in
     record {
       callable = search (of_calls, c.loop-line.invariant.callable);
       lines = c.loop-line.invariant.lines;
