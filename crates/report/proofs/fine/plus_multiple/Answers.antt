@@ -1,6 +1,6 @@
 use Rattle.std.proofs.Common.{◌≡◌, ℤ, pos, ◌+ℤ◌, ◌-ℤ◌, ◌*ℤ◌, w64, SFits, rules, arith}
 use Rattle.std.proofs.lemmas.Int.{ints, to_z-of_z}
-use Rattle.circle.proofs.Turns.{complex_same}
+use Rattle.integers.proofs.ComplexRing.{complex_same}
 use Rattle.report.proofs.fine.plus_multiple.Goals as goal
 
 real_part : (s a b x r : ℤ) → r ≡ s +ℤ a *ℤ x → r ≡ s +ℤ (a *ℤ x -ℤ b *ℤ pos 0)
@@ -19,6 +19,6 @@ returns-clause-value c =
     let im : SFits w64 c.in_ok-im.im = search rules in
     let x : SFits w64 c.args.sample = c.ranges.sample in
     simp to_z-of_z
-    (complex_same _ _ _ _
+    (complex_same
     (real_part c.args.sum.re c.args.factor.re c.args.factor.im c.args.sample c.in_ok-re.re (simp to_z-of_z at c.in_ok-re.ensures.value))
     (imaginary_part c.args.sum.im c.args.factor.re c.args.factor.im c.args.sample c.in_ok-im.im (simp to_z-of_z at c.in_ok-im.ensures.value)))
