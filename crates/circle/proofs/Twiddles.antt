@@ -1,5 +1,5 @@
 -- The twiddles of a scale: their rule has exactly one solution; distance to the fine twiddles, sizes, period.
-use Rattle.std.proofs.Common.{◌≡◌, ℕ, zero, suc, ◌+◌, ◌*◌, ◌/◌, ◌^◌, ◌<◌, ◌≤◌, ℤ, pos, negsuc, ◌-ℤ◌, ◌*ℤ◌, neg_ℤ, nat_abs, ◌≤ℤ◌, ◌<ℤ◌, sym, refl, ap, ◌∙◌, subst, inl, inr, mul_comm, mul-le-mul, mul-le-mul_left, mul-add, arith}
+use Rattle.std.proofs.Common.{◌≡◌, ℕ, zero, suc, ◌+◌, ◌*◌, ◌/◌, ◌%◌, ◌^◌, ◌<◌, ◌≤◌, ℤ, pos, negsuc, ◌-ℤ◌, ◌*ℤ◌, neg_ℤ, nat_abs, ◌≤ℤ◌, ◌<ℤ◌, sym, refl, ap, ◌∙◌, subst, inl, inr, mul_comm, mul-le-mul, mul-le-mul_left, mul-add, arith}
 use borrow.Author.Differences.{ints}
 use lib.IntN.{pos-*ℤ-negsuc, neg_ℤ-neg_ℤ}
 use Rattle.integers.specs.declared.Complex.{Complex}
@@ -10,7 +10,7 @@ use Rattle.circle.specs.Fine.{fine}
 use Rattle.circle.specs.Twiddle.{Twiddles, TwiddlesDetermined, rounded, twiddle}
 use Rattle.circle.specs.Spread.{spread}
 use Rattle.circle.proofs.Unique.{signed_unique}
-use Rattle.circle.proofs.Fine.{fine_turn, fine_sizes}
+use Rattle.circle.proofs.Fine.{fine_period, fine_mod, fine_turn, fine_sizes}
 use Rattle.integers.proofs.Ring.{neg_right, abs_times}
 use Rattle.integers.proofs.ComplexRing.{complex_same}
 
@@ -100,6 +100,14 @@ twiddle_found scale u f a b e p q =
       size = subst (λ (z : Complex). sizes z ≤ spread scale) (sym h) (twiddle_sizes scale u);
       near = subst (λ (z : Complex). Near (2 ^ 29) (multiple (2 ^ 30) z) (multiple scale (fine u))) (sym h) (twiddle_near scale u);
     }
+
+pub twiddle_period : (scale u : ℕ) → twiddle scale (u + 256) ≡ twiddle scale u
+unfolding twiddle
+twiddle_period scale u = rw (fine_period u) refl
+
+pub twiddle_mod : (scale u : ℕ) → twiddle scale (u % 256) ≡ twiddle scale u
+unfolding twiddle
+twiddle_mod scale u = rw (fine_mod u) refl
 
 rounded_neg : (a : ℤ) → rounded (neg_ℤ a) ≡ neg_ℤ (rounded a)
 unfolding rounded

@@ -24,7 +24,7 @@ struct Point {
     sin: u32,
 }
 
-// The first eighth of the circle, from 0 to 32: cosine and sine. Pairs and no points: named fields are no plainer, at four lines an entry.
+// The first eighth of the circle, from 0 to 32: cosine and sine. Kept: points are no plainer, at four lines an entry for one of a pair.
 const EIGHTH: [(u32, u32); 33] = [
     (1_073_741_824, 0),
     (1_073_418_433, 26_350_943),
@@ -113,7 +113,8 @@ pub fn circle_is_determined()
     ensures { CircleDetermined }
 {}
 
-// x times −j: (a + jb)(−j) = b − ja.
+// x times −j: (a + jb)(−j) = b − ja. Kept: a type for the fact that sizes are at most 3·2^29, here and below, is no plainer, since what
+// fine_twiddle answers is a Complex.
 fn quarter_turn(x: Complex) -> Complex
     requires { sizes x ≤ 3 * 2 ^ 29 }
     ensures { result ≡ quarter_turn_of x }

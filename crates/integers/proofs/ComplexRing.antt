@@ -10,8 +10,19 @@ use Rattle.integers.proofs.Ring.{ring}
 pub complex_same : {a b c d : ℤ} → a ≡ c → b ≡ d → complex a b ≡ complex c d
 complex_same p q = ap₂ complex p q
 
+pub ⊕-comm : (x y : Complex) → x ⊕ y ≡ y ⊕ x
+⊕-comm x y = complex_same (+ℤ_comm x.re y.re) (+ℤ_comm x.im y.im)
+
 pub ⊕-assoc : (x y z : Complex) → (x ⊕ y) ⊕ z ≡ x ⊕ (y ⊕ z)
 ⊕-assoc x y z = complex_same (+ℤ_assoc x.re y.re z.re) (+ℤ_assoc x.im y.im z.im)
+
+-- (a + b) − b = a
+pub ⊕-⊖ : (x y : Complex) → (x ⊕ y) ⊖ y ≡ x
+⊕-⊖ x y = complex_same {c = x.re} {d = x.im} (omega (arith, ints)) (omega (arith, ints))
+
+-- (a − b) + b = a
+pub ⊖-⊕ : (x y : Complex) → (x ⊖ y) ⊕ y ≡ x
+⊖-⊕ x y = complex_same {c = x.re} {d = x.im} (omega (arith, ints)) (omega (arith, ints))
 
 pub ⊗-comm : (x y : Complex) → x ⊗ y ≡ y ⊗ x
 ⊗-comm x y =
@@ -26,6 +37,9 @@ pub ⊗-⊕ : (x y z : Complex) → x ⊗ (y ⊕ z) ≡ x ⊗ y ⊕ x ⊗ z
 
 pub ⊗-⊖ : (x y z : Complex) → x ⊗ (y ⊖ z) ≡ x ⊗ y ⊖ x ⊗ z
 ⊗-⊖ x y z = complex_same (simp ring (omega (arith, ints))) (simp ring (omega (arith, ints)))
+
+pub ⊕-⊗ : (x y z : Complex) → (x ⊕ y) ⊗ z ≡ x ⊗ z ⊕ y ⊗ z
+⊕-⊗ x y z = complex_same (simp ring (omega (arith, ints))) (simp ring (omega (arith, ints)))
 
 -- the product by a whole number is the multiple
 pub real-⊗ : (a : ℤ) (x : Complex) → real a ⊗ x ≡ a ⊙ x
@@ -46,3 +60,7 @@ turn_is x = complex_same (omega (arith, ints)) (omega (arith, ints))
 
 pub turn-⊕ : (x y : Complex) → quarter_turn_of (x ⊕ y) ≡ quarter_turn_of x ⊕ quarter_turn_of y
 turn-⊕ x y = complex_same refl (omega (arith, ints))
+
+-- four turns lead back
+pub turn_four : (x : Complex) → quarter_turn_of (quarter_turn_of (quarter_turn_of (quarter_turn_of x))) ≡ x
+turn_four x = complex_same {c = x.re} {d = x.im} (omega (arith, ints)) (omega (arith, ints))

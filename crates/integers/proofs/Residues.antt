@@ -78,6 +78,11 @@ residue_opposite a n z =
     (rw (distrib_right (neg_ℤ p.times) (negsuc 0) (pos n), neg_left p.times (pos n)) (omega (arith, ints, p.differs, p.below, suc-mul 0 n)))
     ∙ residue_pos (n - residue a n) n
 
+-- residues may be taken before a difference
+pub residue_difference : (a b : ℤ) (n : ℕ) → 0 < n → residue (a -ℤ b) n ≡ (residue a n + (n - residue b n)) % n
+residue_difference a b n z =
+    residue_sum a (neg_ℤ b) n z ∙ ap (λ x. (residue a n + x) % n) (residue_opposite b n z) ∙ add-mod-mod (residue a n) (n - residue b n) n
+
 -- residues may be taken before a multiple
 pub residue_multiple : (c a : ℤ) (n : ℕ) → 0 < n → residue (c *ℤ a) n ≡ residue (c *ℤ pos (residue a n)) n
 residue_multiple c a n z =
@@ -116,6 +121,10 @@ centred_only (negsuc a) n o h =
     let l : a < n = omega arith in
     let t : leb (n - 1 - a) (half n) ≡ false = lt-leb (n - 1 - a) (half n) (omega arith) in
     rw (mod-eq_of_lt l, t) (omega (arith, ints))
+
+-- two numbers within half of n that have the same residue are equal
+pub centred_apart : (a b : ℤ) (n : ℕ) → n % 2 ≡ 1 → nat_abs a ≤ half n → nat_abs b ≤ half n → residue a n ≡ residue b n → a ≡ b
+centred_apart a b n o h g e = sym (centred_only a n o h) ∙ ap (λ r. centred r n) e ∙ centred_only b n o g
 
 -- ---- what code computes
 

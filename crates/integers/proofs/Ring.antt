@@ -66,6 +66,10 @@ times_assoc (pos (suc n)) b c = assoc_suc (pos n) b c (times_assoc (pos n) b c)
 times_assoc (negsuc zero) b c = assoc_pred (pos 0) b c (assoc_none b c)
 times_assoc (negsuc (suc n)) b c = assoc_pred (negsuc n) b c (times_assoc (negsuc n) b c)
 
+-- a (b c) = b (a c)
+pub times_left_comm : (a b c : ℤ) → a *ℤ (b *ℤ c) ≡ b *ℤ (a *ℤ c)
+times_left_comm a b c = sym (times_assoc a b c) ∙ ap (λ x. x *ℤ c) (*ℤ_comm a b) ∙ times_assoc b a c
+
 -- −(−a) = a, −(a + b) = −a − b: the products spread out, the opposites moved inwards to the products. What is then left is linear
 -- in the products, and `omega (arith, ints)` proves it where the factors stand in the same order.
 pub ruleset ring = (distrib_right, distrib_left, neg_left, neg_right, times_assoc, neg_ℤ-+ℤ, neg_ℤ-neg_ℤ, zero-*ℤ, *ℤ-zero, one_left, one_right, +ℤ_idl, +ℤ_idr)

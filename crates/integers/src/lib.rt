@@ -21,7 +21,7 @@ impl Modulus {
     pub fn new(n: u64) -> Option<Modulus>
         ensures { Made n result }
     {
-        // no plainer with `then`: its closure would have to repeat the three facts of the type
+        // Kept: no plainer with `then`, whose closure would have to repeat the three facts of the type.
         if n % 2 == 1 && (3..1 << 62).contains(&n) {
             Some(Modulus { n })
         } else {

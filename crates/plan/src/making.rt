@@ -7,8 +7,8 @@ use super::plan::Plan;
 use refusal::Refusal;
 
 impl Plan {
-    // The plan of these numbers, or the earliest refusal that applies: size, sample scale,
-    // twiddle scale. The numbers come one by one: a struct of them is no plainer, a second Plan without its facts.
+    // The plan of these numbers, or the earliest refusal that applies: size, sample scale, twiddle scale. Kept: a struct of the four
+    // is no plainer: a second Plan of which nothing holds, made by a caller only to be taken apart here.
     pub fn new(
         method: Method,
         size: u64,

@@ -6,7 +6,8 @@ use super::method::Method;
 use std::fmt;
 
 impl Method {
-    // Whether the method has transforms of this size. Lists: a test for powers is no plainer, since radix 4 takes every second one.
+    // Whether the method has transforms of this size. Kept: the definition lists the sizes too, and as a test it is no plainer: beside
+    // `size.is_power_of_two() && size <= 256` radix 4 needs `&& size.trailing_zeros() % 2 == 0`.
     pub fn allows(self, size: u64) -> bool
         ensures { result ≡ sized self size }
     {
@@ -18,7 +19,8 @@ impl Method {
         }
     }
 
-    // Into how many parts a stage splits the samples; 2 where there is no stage.
+    // Into how many parts a stage splits the samples; 2 where there is no stage. Kept: an Option is no plainer, since only plans of a radix
+    // ask, and the base whose powers are the sizes is 2 for direct plans too.
     pub(crate) fn parts(self) -> usize
         ensures { result ≡ base self }
     {

@@ -11,7 +11,7 @@ use std::error::Error;
 use std::fmt;
 
 impl Refusal {
-    // The number and the word, in one table. Numbers by `as` are no plainer: it takes no enum with a variant that carries a place.
+    // The number and the word, in one table. Kept: numbers by `as` are no plainer: it takes no enum with a variant that carries a place.
     fn number_and_word(&self) -> (u8, &'static str)
         ensures number { result.0 ≡ (row self.now).number }
         ensures word { result.1.now ≡ (row self.now).word }
