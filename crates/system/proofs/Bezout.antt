@@ -1,9 +1,11 @@
 -- Extended Euclid's algorithm: what its loop keeps, and what it answers.
-use Rattle.std.specs.Prelude.{◌≡◌, ℕ, ◌+◌, ◌-◌, ◌*◌, ◌/◌, ◌%◌, ◌<◌, ◌≤◌}
+use Rattle.std.specs.Prelude.{◌≡◌, ℕ, ◌+◌, ◌-◌, ◌*◌, ◌/◌, ◌%◌, ◌<◌, ◌≤◌, Bool, true, false, ◌==◌, refl}
+use Rattle.std.specs.Bool.{then_some}
 use Rattle.std.specs.Int.{◌∣◌}
 use Rattle.std.proofs.Common.{sym, ap, ◌∙◌, add-mul, mul-add, mul_assoc, mul-one, mul-zero, mul_left_comm, mod-lt, mod-eq_of_lt, add_assoc, arith}
 use Rattle.std.proofs.Math.Nat.{mod_self, zero-mod, mod-mod, mod-add-div, add-mul-mod_self_left, add-mod-mod, dvd-mod_iff, dvd_refl, dvd-zero, eq-one_of_dvd-one, dvd-mul_right_of_dvd}
-use Rattle.system.specs.Moduli.{Coprime, Inverts}
+use Rattle.system.specs.Moduli.{Coprime, Inverts, Inverse}
+use Rattle.std.proofs.lemmas.Bool.{eqb-true, eqb-false}
 use Rattle.std.proofs.lemmas.Nat.{mul-mod_first, mul-mod_second}
 use Rattle.system.proofs.Congruence.{cancel}
 
@@ -71,3 +73,11 @@ pub found : (a m rest next f g : ℕ) → 2 ≤ m → Going a m rest next f g �
 found a m rest next f g h so e =
     let inv : (a * f) % m ≡ 1 = sym so.is ∙ ap (λ t. t % m) e ∙ mod-eq_of_lt (omega arith) in
     record { below = so.f_below; product = inv; coprime = inverse_coprime a m f inv }
+
+-- at the end the factor is answered where the last rest is 1, and none elsewhere
+pub answers : (a m rest next f g : ℕ) → 2 ≤ m → Going a m rest next f g → next ≡ 0 → Inverse a m (then_some (rest == 1) f)
+answers a m rest next f g h so e = go (rest == 1) refl
+  where
+    go : (b : Bool) → (rest == 1) ≡ b → Inverse a m (then_some b f)
+    go true is = found a m rest next f g h so (eqb-true rest 1 is)
+    go false is = λ only. eqb-false rest 1 is (ends a m rest next f g so e only)

@@ -18,13 +18,13 @@ use Rattle.system.proofs.Congruence.{differ, cancel, joined, none_below, raised_
 
 module _ (s : System) where
   -- each modulus is a factor of the product
-  pub one_divides : s.first.n ∣ product s
-  one_divides = dvd_trans _ (dvd-mul_right s.first.n s.second.n) (dvd-mul_right (s.first.n * s.second.n) s.third.n)
+  pub one_divides : s.first.modulus.n ∣ product s
+  one_divides = dvd_trans _ (dvd-mul_right s.first.modulus.n s.second.modulus.n) (dvd-mul_right (s.first.modulus.n * s.second.modulus.n) s.third.modulus.n)
 
-  pub two_divides : s.second.n ∣ product s
-  two_divides = dvd_trans _ (dvd-mul_left s.second.n s.first.n) (dvd-mul_right (s.first.n * s.second.n) s.third.n)
+  pub two_divides : s.second.modulus.n ∣ product s
+  two_divides = dvd_trans _ (dvd-mul_left s.second.modulus.n s.first.modulus.n) (dvd-mul_right (s.first.modulus.n * s.second.modulus.n) s.third.modulus.n)
 
-  pub parts_formed : (x : Residues) → x.first < s.first.n → x.second < s.second.n → x.third < s.third.n → formed s x ≡ true
+  pub parts_formed : (x : Residues) → x.first < s.first.modulus.n → x.second < s.second.modulus.n → x.third < s.third.modulus.n → formed s x ≡ true
   parts_formed x p q r = and_from _ _ (lt-ltb _ _ p) (and_from _ _ (lt-ltb _ _ q) (lt-ltb _ _ r))
 
   -- what a number leaves is well formed
@@ -35,32 +35,32 @@ module _ (s : System) where
   pub hidden_leaves : (x : Residues) → formed s x ≡ true → Leaves s x (hidden s x)
   hidden_leaves x f =
       let parts = formed_parts s x f in
-      let p : x.first < s.first.n = parts.0 in
-      let q : x.second < s.second.n = parts.1 in
-      let r : x.third < s.third.n = parts.2 in
-      let pq : ℕ = s.first.n * s.second.n in
-      let low : ℕ = raised x.first s.first.n s.second.n s.inverse x.second in
-      let all : ℕ = raised low pq s.third.n s.joint x.third in
-      let kept : all % pq ≡ low % pq = raised_old low pq s.third.n s.joint x.third in
-      let one-pq : s.first.n ∣ pq = dvd-mul_right s.first.n s.second.n in
-      let two-pq : s.second.n ∣ pq = dvd-mul_left s.second.n s.first.n in
+      let p : x.first < s.first.modulus.n = parts.0 in
+      let q : x.second < s.second.modulus.n = parts.1 in
+      let r : x.third < s.third.modulus.n = parts.2 in
+      let pq : ℕ = s.first.modulus.n * s.second.modulus.n in
+      let low : ℕ = raised x.first s.first.modulus.n s.second.modulus.n s.inverse x.second in
+      let all : ℕ = raised low pq s.third.modulus.n s.joint x.third in
+      let kept : all % pq ≡ low % pq = raised_old low pq s.third.modulus.n s.joint x.third in
+      let one-pq : s.first.modulus.n ∣ pq = dvd-mul_right s.first.modulus.n s.second.modulus.n in
+      let two-pq : s.second.modulus.n ∣ pq = dvd-mul_left s.second.modulus.n s.first.modulus.n in
       record {
         below = hidden_below s x f;
-        one = sym (mod-mod_of_dvd s.first.n all one-pq) ∙ ap (λ t. t % s.first.n) kept ∙ mod-mod_of_dvd s.first.n low one-pq
-            ∙ raised_old x.first s.first.n s.second.n s.inverse x.second ∙ mod-eq_of_lt p;
-        two = sym (mod-mod_of_dvd s.second.n all two-pq) ∙ ap (λ t. t % s.second.n) kept ∙ mod-mod_of_dvd s.second.n low two-pq
-            ∙ raised_new x.first s.first.n s.second.n s.inverse x.second s.inverts q;
-        three = raised_new low pq s.third.n s.joint x.third s.joint_inverts r;
+        one = sym (mod-mod_of_dvd s.first.modulus.n all one-pq) ∙ ap (λ t. t % s.first.modulus.n) kept ∙ mod-mod_of_dvd s.first.modulus.n low one-pq
+            ∙ raised_old x.first s.first.modulus.n s.second.modulus.n s.inverse x.second ∙ mod-eq_of_lt p;
+        two = sym (mod-mod_of_dvd s.second.modulus.n all two-pq) ∙ ap (λ t. t % s.second.modulus.n) kept ∙ mod-mod_of_dvd s.second.modulus.n low two-pq
+            ∙ raised_new x.first s.first.modulus.n s.second.modulus.n s.inverse x.second s.inverts q;
+        three = raised_new low pq s.third.modulus.n s.joint x.third s.joint_inverts r;
       }
 
   -- numbers that leave the same residues differ by a multiple of the product
   pub same_differ : (x : Residues) (m n : ℕ) → m ≤ n → Leaves s x m → Leaves s x n → product s ∣ n - m
   same_differ x m n le a b =
-      joined (s.first.n * s.second.n) s.third.n s.joint (n - m) s.joint_inverts
-      (joined s.first.n s.second.n s.inverse (n - m) s.inverts
-      (differ m n s.first.n le (a.one ∙ sym b.one))
-      (differ m n s.second.n le (a.two ∙ sym b.two)))
-      (differ m n s.third.n le (a.three ∙ sym b.three))
+      joined (s.first.modulus.n * s.second.modulus.n) s.third.modulus.n s.joint (n - m) s.joint_inverts
+      (joined s.first.modulus.n s.second.modulus.n s.inverse (n - m) s.inverts
+      (differ m n s.first.modulus.n le (a.one ∙ sym b.one))
+      (differ m n s.second.modulus.n le (a.two ∙ sym b.two)))
+      (differ m n s.third.modulus.n le (a.three ∙ sym b.three))
 
   same_ordered : (x : Residues) (m n : ℕ) → m ≤ n → Leaves s x m → Leaves s x n → m ≡ n
   same_ordered x m n le a b =
@@ -83,13 +83,13 @@ module _ (s : System) where
 
   -- the sum modulo the product leaves the sums
   pub sum_leaves : (x y z : Residues) (m n : ℕ) → Leaves s x m → Leaves s y n
-      → z.first ≡ (x.first + y.first) % s.first.n → z.second ≡ (x.second + y.second) % s.second.n → z.third ≡ (x.third + y.third) % s.third.n
+      → z.first ≡ (x.first + y.first) % s.first.modulus.n → z.second ≡ (x.second + y.second) % s.second.modulus.n → z.third ≡ (x.third + y.third) % s.third.modulus.n
       → Leaves s z ((m + n) % product s)
   sum_leaves x y z m n a b e f g = record {
     below = mod-lt (m + n) (product_some s);
-    one = sum_modulo m n s.first.n one_divides ∙ rw (a.one, b.one) (sym e);
-    two = sum_modulo m n s.second.n two_divides ∙ rw (a.two, b.two) (sym f);
-    three = sum_modulo m n s.third.n (three_divides s) ∙ rw (a.three, b.three) (sym g);
+    one = sum_modulo m n s.first.modulus.n one_divides ∙ rw (a.one, b.one) (sym e);
+    two = sum_modulo m n s.second.modulus.n two_divides ∙ rw (a.two, b.two) (sym f);
+    three = sum_modulo m n s.third.modulus.n (three_divides s) ∙ rw (a.three, b.three) (sym g);
   }
 
   -- what brings the sum with a remainder to 0 modulo a factor d of the product is the remainder of the opposite
@@ -102,21 +102,21 @@ module _ (s : System) where
 
   -- what the product lacks of a number leaves the opposites
   pub opposite_leaves : (x z : Residues) (m : ℕ) → Leaves s x m → formed s z ≡ true
-      → (x.first + z.first) % s.first.n ≡ 0 → (x.second + z.second) % s.second.n ≡ 0 → (x.third + z.third) % s.third.n ≡ 0
+      → (x.first + z.first) % s.first.modulus.n ≡ 0 → (x.second + z.second) % s.second.modulus.n ≡ 0 → (x.third + z.third) % s.third.modulus.n ≡ 0
       → Leaves s z ((product s - m) % product s)
   opposite_leaves x z m a w e f g =
       let le : m ≤ product s = le_of_lt a.below in
       let in-range = formed_parts s z w in
       record {
         below = mod-lt (product s - m) (product_some s);
-        one = opposite_modulo m s.first.n x.first z.first le one_divides a.one in-range.0 e;
-        two = opposite_modulo m s.second.n x.second z.second le two_divides a.two in-range.1 f;
-        three = opposite_modulo m s.third.n x.third z.third le (three_divides s) a.three in-range.2 g;
+        one = opposite_modulo m s.first.modulus.n x.first z.first le one_divides a.one in-range.0 e;
+        two = opposite_modulo m s.second.modulus.n x.second z.second le two_divides a.two in-range.1 f;
+        three = opposite_modulo m s.third.modulus.n x.third z.third le (three_divides s) a.three in-range.2 g;
       }
 
   -- 0 leaves three zeros
   pub zero_leaves : (x : Residues) → x.first ≡ 0 → x.second ≡ 0 → x.third ≡ 0 → Leaves s x 0
-  zero_leaves x e f g = record { below = (product_some s); one = zero-mod s.first.n ∙ sym e; two = zero-mod s.second.n ∙ sym f; three = zero-mod s.third.n ∙ sym g }
+  zero_leaves x e f g = record { below = (product_some s); one = zero-mod s.first.modulus.n ∙ sym e; two = zero-mod s.second.modulus.n ∙ sym f; three = zero-mod s.third.modulus.n ∙ sym g }
 
   -- modulo a factor d of the product, the residue of a whole number is that modulo d
   residue_modulo : (m : ℤ) (d : ℕ) → 0 < d → d ∣ product s → residue m (product s) % d ≡ residue m d
@@ -133,17 +133,17 @@ module _ (s : System) where
       cancel (N - 1 - a % N) (d - 1 - a % d) (1 + a % N) d back ∙ mod-eq_of_lt (omega arith)
 
   -- the residue of a whole number modulo the product leaves the three residues of the whole number
-  pub residue_leaves : (m : ℤ) (x : Residues) → x.first ≡ residue m s.first.n → x.second ≡ residue m s.second.n → x.third ≡ residue m s.third.n
+  pub residue_leaves : (m : ℤ) (x : Residues) → x.first ≡ residue m s.first.modulus.n → x.second ≡ residue m s.second.modulus.n → x.third ≡ residue m s.third.modulus.n
       → Leaves s x (residue m (product s))
   residue_leaves m x e f g = record {
     below = residue_below m (product s) (product_some s);
-    one = residue_modulo m s.first.n (one_some s) one_divides ∙ sym e;
-    two = residue_modulo m s.second.n (two_some s) two_divides ∙ sym f;
-    three = residue_modulo m s.third.n (three_some s) (three_divides s) ∙ sym g;
+    one = residue_modulo m s.first.modulus.n (one_some s) one_divides ∙ sym e;
+    two = residue_modulo m s.second.modulus.n (two_some s) two_divides ∙ sym f;
+    three = residue_modulo m s.third.modulus.n (three_some s) (three_divides s) ∙ sym g;
   }
 
-  pub pair_most : s.first.n * s.second.n < 2 ^ 40
-  pair_most = let le : s.first.n * s.second.n ≤ 1_048_575 * 1_048_575 = mul-le-mul s.first.most s.second.most in (omega arith)
+  pub pair_most : s.first.modulus.n * s.second.modulus.n < 2 ^ 40
+  pair_most = let le : s.first.modulus.n * s.second.modulus.n ≤ 1_048_575 * 1_048_575 = mul-le-mul s.first.most s.second.most in (omega arith)
 
   pub zero_owed : (x : Residues) → x ≡ residues 0 0 0 → Zero (meant s) x
   zero_owed x e =
@@ -151,14 +151,14 @@ module _ (s : System) where
       record { wf = leaves_formed x 0 h; reads = λ v. hidden_is x 0 h }
 
   pub sum_owed : (x y z : Residues)
-      → z.first ≡ (x.first + y.first) % s.first.n → z.second ≡ (x.second + y.second) % s.second.n → z.third ≡ (x.third + y.third) % s.third.n
+      → z.first ≡ (x.first + y.first) % s.first.modulus.n → z.second ≡ (x.second + y.second) % s.second.modulus.n → z.third ≡ (x.third + y.third) % s.third.modulus.n
       → formed s x ≡ true → formed s y ≡ true → Sum (meant s) x y z
   sum_owed x y z e f g a b =
       let h = sum_leaves x y z (hidden s x) (hidden s y) (hidden_leaves x a) (hidden_leaves y b) e f g in
       record { wf = leaves_formed z _ h; reads = λ v. hidden_is z _ h }
 
   pub opposite_owed : (x z : Residues) → formed s z ≡ true
-      → (x.first + z.first) % s.first.n ≡ 0 → (x.second + z.second) % s.second.n ≡ 0 → (x.third + z.third) % s.third.n ≡ 0
+      → (x.first + z.first) % s.first.modulus.n ≡ 0 → (x.second + z.second) % s.second.modulus.n ≡ 0 → (x.third + z.third) % s.third.modulus.n ≡ 0
       → formed s x ≡ true → Opposite (meant s) x z
   opposite_owed x z w e f g a =
       let m : ℕ = hidden s x in
@@ -172,7 +172,7 @@ module _ (s : System) where
       }
 
   pub sealed_owed : (m : ℤ) (word : ℕ) (x : Residues) → unsigned_abs m ≤ half (product s) → word < product s
-      → x.first ≡ residue m s.first.n → x.second ≡ residue m s.second.n → x.third ≡ residue m s.third.n
+      → x.first ≡ residue m s.first.modulus.n → x.second ≡ residue m s.second.modulus.n → x.third ≡ residue m s.third.modulus.n
       → Sealed (meant s) m word x
   sealed_owed m word x within taken e f g =
       let h = residue_leaves m x e f g in

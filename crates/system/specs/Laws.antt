@@ -24,52 +24,52 @@ module _ (base a m u x : ℕ) where
 
 module _ (s : System) where
   -- the moduli are above 0
-  pub one_some : 0 < s.first.n
-  one_some = omega (arith, s.first.least)
+  pub one_some : 0 < s.first.modulus.n
+  one_some = omega (arith, s.first.modulus.least)
 
-  pub two_some : 0 < s.second.n
-  two_some = omega (arith, s.second.least)
+  pub two_some : 0 < s.second.modulus.n
+  two_some = omega (arith, s.second.modulus.least)
 
-  pub three_some : 0 < s.third.n
-  three_some = omega (arith, s.third.least)
+  pub three_some : 0 < s.third.modulus.n
+  three_some = omega (arith, s.third.modulus.least)
 
   pub product_some : 0 < product s
   product_some = mul-pos (mul-pos one_some two_some) three_some
 
-  pub three_divides : s.third.n ∣ product s
-  three_divides = dvd-mul_left s.third.n (s.first.n * s.second.n)
+  pub three_divides : s.third.modulus.n ∣ product s
+  three_divides = dvd-mul_left s.third.modulus.n (s.first.modulus.n * s.second.modulus.n)
 
   -- well-formed residues are below their moduli
-  pub formed_parts : (x : Residues) → formed s x ≡ true → (x.first < s.first.n) × (x.second < s.second.n) × (x.third < s.third.n)
+  pub formed_parts : (x : Residues) → formed s x ≡ true → (x.first < s.first.modulus.n) × (x.second < s.second.modulus.n) × (x.third < s.third.modulus.n)
   formed_parts x f =
-      let parts = and_parts (nat_lt x.first s.first.n) (nat_lt x.second s.second.n && nat_lt x.third s.third.n) f in
-      let rest = and_parts (nat_lt x.second s.second.n) (nat_lt x.third s.third.n) parts.1 in
+      let parts = and_parts (nat_lt x.first s.first.modulus.n) (nat_lt x.second s.second.modulus.n && nat_lt x.third s.third.modulus.n) f in
+      let rest = and_parts (nat_lt x.second s.second.modulus.n) (nat_lt x.third s.third.modulus.n) parts.1 in
       (ltb-true _ _ parts.0, ltb-true _ _ rest.0, ltb-true _ _ rest.1)
 
   -- the hidden number is below the product
   pub hidden_below : (x : Residues) → formed s x ≡ true → hidden s x < product s
   hidden_below x f =
       let parts = formed_parts x f in
-      raised_below (raised x.first s.first.n s.second.n s.inverse x.second) (s.first.n * s.second.n) s.third.n s.joint x.third
-      (raised_below x.first s.first.n s.second.n s.inverse x.second parts.0 two_some) three_some
+      raised_below (raised x.first s.first.modulus.n s.second.modulus.n s.inverse x.second) (s.first.modulus.n * s.second.modulus.n) s.third.modulus.n s.joint x.third
+      (raised_below x.first s.first.modulus.n s.second.modulus.n s.inverse x.second parts.0 two_some) three_some
 
   -- the product of the moduli is odd, at least 3 and below 2^60
   odd_times : (a b : ℕ) → a % 2 ≡ 1 → b % 2 ≡ 1 → (a * b) % 2 ≡ 1
   odd_times a b e f = sym (mul-mod_first a b 2) ∙ ap (λ t. (t * b) % 2) e ∙ ap (λ t. t % 2) (one-mul b) ∙ f
 
   pub product_odd : product s % 2 ≡ 1
-  product_odd = odd_times (s.first.n * s.second.n) s.third.n (odd_times s.first.n s.second.n s.first.odd s.second.odd) s.third.odd
+  product_odd = odd_times (s.first.modulus.n * s.second.modulus.n) s.third.modulus.n (odd_times s.first.modulus.n s.second.modulus.n s.first.modulus.odd s.second.modulus.odd) s.third.modulus.odd
 
   pub product_most : product s < 2 ^ 60
   product_most =
-      let pair : s.first.n * s.second.n ≤ 1_048_575 * 1_048_575 = mul-le-mul s.first.most s.second.most in
+      let pair : s.first.modulus.n * s.second.modulus.n ≤ 1_048_575 * 1_048_575 = mul-le-mul s.first.most s.second.most in
       let le : product s ≤ 1_048_575 * 1_048_575 * 1_048_575 = mul-le-mul pair s.third.most in
       omega arith
 
   pub product_least : 3 ≤ product s
   product_least =
-      let le : s.third.n ≤ product s = le_of_dvd product_some three_divides in
-      omega (arith, s.third.least)
+      let le : s.third.modulus.n ≤ product s = le_of_dvd product_some three_divides in
+      omega (arith, s.third.modulus.least)
 
   -- what a scheme owes
   pub sound : Sound (meant s)

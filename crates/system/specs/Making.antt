@@ -8,15 +8,15 @@ use Rattle.system.specs.Moduli.{Suits, Lawful}
 
 -- the one modulus is m, which is lawful; or m is not
 abbrev pub MadeSmall : ℕ → Option SmallModulus → Type 0
-MadeSmall m (Some s) = Suits m × (s.n ≡ m)
+MadeSmall m (Some s) = Suits m × (s.modulus.n ≡ m)
 MadeSmall m None = Suits m → ⊥
 
 -- the three moduli are lawful, and they are those of the system
 pub record Accepted (p q r : ℕ) (s : System) : Type 0 where
   pub lawful : Lawful p q r
-  pub one : s.first.n ≡ p
-  pub two : s.second.n ≡ q
-  pub three : s.third.n ≡ r
+  pub one : s.first.modulus.n ≡ p
+  pub two : s.second.modulus.n ≡ q
+  pub three : s.third.modulus.n ≡ r
 
 -- a system with these moduli where they are lawful, else none
 abbrev pub Found : ℕ → ℕ → ℕ → Option System → Type 0

@@ -12,20 +12,8 @@ impl SmallModulus {
     pub(crate) fn new(n: u64) -> Option<SmallModulus>
         ensures { MadeSmall n result }
     {
-        if n % 2 == 1 && (3..=1_048_575).contains(&n) {
-            Some(SmallModulus { n })
-        } else {
-            None
-        }
-    }
-}
-
-// The same modulus, as one of residues.
-impl From<SmallModulus> for Modulus {
-    ghost from_gives = { λ small r. r.n ≡ small.n };
-
-    fn from(small: SmallModulus) -> Modulus {
-        Modulus { n: small.n }
+        let modulus = Modulus::new(n).filter(|modulus| modulus.n <= 1_048_575)?;
+        Some(SmallModulus { modulus })
     }
 }
 
@@ -48,7 +36,7 @@ impl System {
         let first_to_second = inverse(first, second)?;
         let first_to_third = inverse(first, third)?;
         let second_to_third = inverse(second, third)?;
-        let joint = joint_inverse(first.n, second.n, third, first_to_third, second_to_third);
+        let joint = joint_inverse(first, second, third, first_to_third, second_to_third);
         Some(System {
             first,
             second,

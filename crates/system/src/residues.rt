@@ -11,13 +11,11 @@ pub struct Residues {
     pub third: u64,
 }
 
-// One of the three moduli: odd, from 3 to 1,048,575.
+// One of the three moduli: a modulus, so odd and at least 3, of at most 1,048,575.
 #[derive(Clone, Copy)]
 pub(crate) struct SmallModulus {
-    pub(crate) n: u64,
-    ghost odd: { n % 2 ≡ 1 },
-    ghost least: { 3 ≤ n },
-    ghost most: { n ≤ 1_048_575 },
+    pub(crate) modulus: Modulus,
+    ghost most: { modulus.n ≤ 1_048_575 },
 }
 
 // A residue system: three odd moduli, no two with a common factor.
@@ -30,8 +28,8 @@ pub struct System {
     pub(crate) inverse: u64,
     // an inverse of the product of the first two moduli, modulo the third
     pub(crate) joint: u64,
-    ghost inverse_below: { inverse < second.n },
-    ghost joint_below: { joint < third.n },
-    ghost inverts: { (first.n * inverse) % second.n ≡ 1 },
-    ghost joint_inverts: { (first.n * second.n * joint) % third.n ≡ 1 },
+    ghost inverse_below: { inverse < second.modulus.n },
+    ghost joint_below: { joint < third.modulus.n },
+    ghost inverts: { (first.modulus.n * inverse) % second.modulus.n ≡ 1 },
+    ghost joint_inverts: { (first.modulus.n * second.modulus.n * joint) % third.modulus.n ≡ 1 },
 }

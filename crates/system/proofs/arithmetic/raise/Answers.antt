@@ -8,10 +8,10 @@ pub overflow_add-result : goal.overflow_add-result
 unfolding raised
 overflow_add-result c =
     let filled =
-    raised_below c.args.base c.args.factor c.args.modulus.n c.args.inverse c.args.residue
+    raised_below c.args.base c.args.factor c.args.small.modulus.n c.args.inverse c.args.residue
     c.requires.digits.0 (omega arith) in
-    let room : c.args.factor * c.args.modulus.n < 2 ^ 40 * 2 ^ 20 =
-    mul-lt c.args.factor c.args.modulus.n (2 ^ 40) (2 ^ 20) c.requires.fits (omega (arith, c.args.modulus.most)) in
+    let room : c.args.factor * c.args.small.modulus.n < 2 ^ 40 * 2 ^ 20 =
+    mul-lt c.args.factor c.args.small.modulus.n (2 ^ 40) (2 ^ 20) c.requires.fits (omega (arith, c.args.small.most)) in
     search rules
 
 pub returns : goal.returns
@@ -20,6 +20,6 @@ returns c =
     record {
       value = refl;
       below =
-          raised_below c.args.base c.args.factor c.args.modulus.n c.args.inverse c.args.residue
+          raised_below c.args.base c.args.factor c.args.small.modulus.n c.args.inverse c.args.residue
           c.requires.digits.0 (omega arith);
     }

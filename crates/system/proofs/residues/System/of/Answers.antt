@@ -4,33 +4,33 @@ use Rattle.system.proofs.residues.System.of.Goals as goal
 
 pub returns-in_err-first_to_second : goal.returns-in_err-first_to_second
 returns-in_err-first_to_second c =
-    let p : c.in_ok-first.first.n ≡ c.args.first = search rules in
-    let q : c.in_ok-second.second.n ≡ c.args.second = search rules in
+    let p : c.in_ok-first.first.modulus.n ≡ c.args.first = search rules in
+    let q : c.in_ok-second.second.modulus.n ≡ c.args.second = search rules in
     let h : Coprime c.args.first c.args.second → ⊥ = simp (p, q) at c.in_err-first_to_second.ensures in
     let none : Lawful c.args.first c.args.second c.args.third → ⊥ = λ l. h l.one_two in
     search (rules, none)
 
 pub returns-in_err-first_to_third : goal.returns-in_err-first_to_third
 returns-in_err-first_to_third c =
-    let p : c.in_ok-first.first.n ≡ c.args.first = search rules in
-    let r : c.in_ok-third.third.n ≡ c.args.third = search rules in
+    let p : c.in_ok-first.first.modulus.n ≡ c.args.first = search rules in
+    let r : c.in_ok-third.third.modulus.n ≡ c.args.third = search rules in
     let h : Coprime c.args.first c.args.third → ⊥ = simp (p, r) at c.in_err-first_to_third.ensures in
     let none : Lawful c.args.first c.args.second c.args.third → ⊥ = λ l. h l.one_three in
     search (rules, none)
 
 pub returns-in_err-second_to_third : goal.returns-in_err-second_to_third
 returns-in_err-second_to_third c =
-    let q : c.in_ok-second.second.n ≡ c.args.second = search rules in
-    let r : c.in_ok-third.third.n ≡ c.args.third = search rules in
+    let q : c.in_ok-second.second.modulus.n ≡ c.args.second = search rules in
+    let r : c.in_ok-third.third.modulus.n ≡ c.args.third = search rules in
     let h : Coprime c.args.second c.args.third → ⊥ = simp (q, r) at c.in_err-second_to_third.ensures in
     let none : Lawful c.args.first c.args.second c.args.third → ⊥ = λ l. h l.two_three in
     search (rules, none)
 
 pub returns : goal.returns
 returns c =
-    let p : c.in_ok-first.first.n ≡ c.args.first = search rules in
-    let q : c.in_ok-second.second.n ≡ c.args.second = search rules in
-    let r : c.in_ok-third.third.n ≡ c.args.third = search rules in
+    let p : c.in_ok-first.first.modulus.n ≡ c.args.first = search rules in
+    let q : c.in_ok-second.second.modulus.n ≡ c.args.second = search rules in
+    let r : c.in_ok-third.third.modulus.n ≡ c.args.third = search rules in
     record {
       lawful = record {
         one = c.in_ok-first.ensures.0;
