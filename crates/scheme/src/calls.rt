@@ -9,10 +9,11 @@ use refusal::Refusal;
 // the mask words that it takes, which numbers are well formed and what they hide. The answers of sum, opposite and open on numbers
 // that are not well formed are free. These contracts are all that is assumed of a scheme.
 //
-// Kept, here and in every function over a scheme of whatever crate: the clause `frame` stands at each, since it ties the scheme before
-// the call to the scheme after it, and a type's invariant speaks of one moment.
-// Kept likewise: `wf a ≡ true →` stands before what an answer owes. A block may hold any numbers and no public function has a
-// `requires`, so a type of well-formed numbers would ask more of callers.
+// Kept: no plainer, here and in every function over a scheme of whatever crate. The clause `frame` stands at each, since it ties the
+// scheme before the call to the scheme after it; a type's invariant speaks of one moment and cannot say it.
+//
+// Kept: a rule of the project needs it. `wf a ≡ true →` stands before what an answer owes. A block may hold any numbers and no public
+// function has a `requires`, so a type of well-formed numbers would ask more of callers.
 pub trait Scheme {
     // a hidden number
     type Number: Copy;

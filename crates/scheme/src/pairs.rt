@@ -1,7 +1,9 @@
 // Hidden complex numbers: pairs of hidden numbers, real part first, under every scheme.
 //
-// Kept: two calls, one for each component. A helper would be handed the scheme inside each closure, as in
-// `each(s, a, |s, x| hidden::multiple(s, c, x))`, another one two operands, and neither is shorter than the two calls.
+// Kept: no plainer. Two calls, one for each component. A helper, as in `both(s, a, |s, x| hidden::multiple(s, c, x))`, would have to
+// lend the scheme to its closure, since every call changes it. So its contract would need clauses on the steps of the closure: that it
+// may be called at any state, and that there is a scheme between the two calls, which the first left and the second took. Each
+// function would have to draw its own contract from those, to save two lines.
 ghost use Rattle.std.specs.Prelude.{◌≡◌};
 ghost use Rattle.integers.specs.Complex.{◌⊕◌, ◌⊖◌, ◌⊗◌, ◌⊙◌, quarter_turn_of};
 ghost use Rattle.scheme.specs.Meaning.{View};

@@ -87,6 +87,7 @@ impl<'a, P: Print, S: Scheme> Sweep<'a, P, S> {
         let zero = self.s.zero();
         let opened = self.s.open(zero);
         println!(self.rt; "{name} zero {opened}")?;
+        // Kept: no plainer. `as`, since no From leads from u64 to i64, and a try_from would answer an error that cannot come.
         let half = modulus_of(self.s).half() as i64;
         for m in [0, 1, -1, half, -half, half + 1, !half] {
             self.print_seals(m)?;
@@ -110,7 +111,8 @@ impl<'a, P: Print, S: Scheme> Sweep<'a, P, S> {
     }
 }
 
-// Kept: a match, in this and in the next two. A scheme that is refused is a line of the sweep and not its end, as `?` would make it.
+// Kept: no plainer. A match, in this and in the next two: a scheme that is refused is a line of the sweep, and not its end, as it would
+// be with `?`.
 fn print_plain(rt: &impl Print, n: u64) -> io::Result<()> {
     let mut s = match Plain::new(n) {
         Ok(s) => s,

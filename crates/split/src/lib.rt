@@ -44,8 +44,10 @@ impl<S: Scheme> Scheme for Split<S> {
         self.below.test(x.first) && self.below.test(x.second)
     }
 
-    // Half by half. Kept in two lines, here, in sum and in opposite: the form `a.map(&mut |x| below.opposite(x))` takes map, zip and a
-    // third function of Halves, each with a contract on the steps of a closure, to save a line or two in each of these three.
+    // Half by half.
+    //
+    // Kept: no plainer. Two lines for the two halves, here, in sum and in opposite: the form `a.map(&mut |x| below.opposite(x))` takes
+    // map, zip and a third function of Halves, each with a contract on the steps of a closure, to save a line or two in each of these.
     fn zero(&mut self) -> Halves<S::Number>
         ensures value { Zero (split (S.meaning self.old.below)) result }
         ensures halves { ZeroHalves (S.meaning self.old.below) result }

@@ -18,9 +18,6 @@ fn raise(base: u64, factor: u64, small: SmallModulus, inverse: u64, residue: u64
     base + factor * (lack * inverse % small.modulus.n)
 }
 
-// Kept: a line for each modulus in the three functions that make residues. A helper over a closure would be handed what is there at
-// each modulus, two residues for a sum, one for an opposite and none for a remainder, and `each(a, b, |n, x, y| n.sum(x, y))` would
-// serve the sum alone.
 impl System {
     // The product of the first two moduli.
     fn pair(&self) -> u64
@@ -48,17 +45,27 @@ impl System {
             && x.third < self.third.modulus.n
     }
 
+    // At each modulus, what the function answers for it and the two residues there.
+    fn each<F: Fn(Modulus, u64, u64) -> u64>(&self, a: Residues, b: Residues, f: F) -> Residues
+        requires { F.IsAlwaysCallable f }
+        ensures first { F.post f self.now.first.modulus a.first b.first result.first }
+        ensures second { F.post f self.now.second.modulus a.second b.second result.second }
+        ensures third { F.post f self.now.third.modulus a.third b.third result.third }
+    {
+        Residues {
+            first: f(self.first.modulus, a.first, b.first),
+            second: f(self.second.modulus, a.second, b.second),
+            third: f(self.third.modulus, a.third, b.third),
+        }
+    }
+
     // The sums of the residues.
     pub(crate) fn sums(&self, a: Residues, b: Residues) -> Residues
         ensures first { result.first ≡ (a.first + b.first) % self.now.first.modulus.n }
         ensures second { result.second ≡ (a.second + b.second) % self.now.second.modulus.n }
         ensures third { result.third ≡ (a.third + b.third) % self.now.third.modulus.n }
     {
-        Residues {
-            first: self.first.modulus.sum(a.first, b.first),
-            second: self.second.modulus.sum(a.second, b.second),
-            third: self.third.modulus.sum(a.third, b.third),
-        }
+        self.each(a, b, |n, x, y| n.sum(x, y))
     }
 
     // The residues that bring the sums to 0.
@@ -68,11 +75,7 @@ impl System {
         ensures second { (a.second + result.second) % self.now.second.modulus.n ≡ 0 }
         ensures third { (a.third + result.third) % self.now.third.modulus.n ≡ 0 }
     {
-        Residues {
-            first: self.first.modulus.opposite(a.first),
-            second: self.second.modulus.opposite(a.second),
-            third: self.third.modulus.opposite(a.third),
-        }
+        self.each(a, a, |n, x, _| n.opposite(x))
     }
 
     // The residues of a whole number.
@@ -81,11 +84,8 @@ impl System {
         ensures second { result.second ≡ residue_of m self.now.second.modulus.n }
         ensures third { result.third ≡ residue_of m self.now.third.modulus.n }
     {
-        Residues {
-            first: self.first.modulus.residue(m),
-            second: self.second.modulus.residue(m),
-            third: self.third.modulus.residue(m),
-        }
+        let zero = Residues::default();
+        self.each(zero, zero, |n, _, _| n.residue(m))
     }
 
     // The number that well-formed residues hide, digit by digit in mixed radix.
