@@ -1,5 +1,6 @@
 pub mod Blocks
 pub mod Carrying
+pub mod Counting
 pub mod Crossing
 pub mod Entries
 pub mod Finishing

@@ -13,8 +13,9 @@ use scheme::{Scheme, pairs};
 
 // A scheme with the butterfly of radix R: each of R pairs becomes the sum of all of them, turned by powers of −j.
 pub(crate) trait Radix<const R: usize>: Scheme {
-    // The butterfly in place, on the pairs at first, first + span, .., first + (R − 1)·span. Tried with an array of R pairs, and the proof
-    // didn't close: no impl fits a const parameter in the signature, and a call owes that the array's size is below 2^63.
+    // The butterfly in place, on the pairs at first, first + span, .., first + (R − 1)·span.
+    // Kept: tried with an array of R pairs, and the proof didn't close: in an impl for radix 2 or 4 the array `[pair; 2]` or `[pair; 4]`
+    // is not taken for the trait's `[pair; R]`, and each call owes that R pairs are smaller than 2^63 bytes.
     fn butterfly(&mut self, first: usize, span: usize, block: &mut [(Self::Number, Self::Number)])
         requires apart { 0 < span }
         requires within { first + (R - 1) * span < length block.old }
@@ -107,7 +108,7 @@ impl<const R: usize> Butterfly<R> {
         ensures frame { S.meaning s.new ≡ S.meaning s.old }
     {
         let first = self.group * (R * self.span) + self.k;
-        // By number: tried with iter_mut().step_by(span), and the proof didn't close, since after it no pair of the block is known.
+        // Kept: tried with iter_mut().step_by(span), and the proof didn't close, since after it no pair of the block is known.
         for i in 0..R {
             let place = first + i * self.span;
             block[place] = self.weighted(s, i, block[place]);

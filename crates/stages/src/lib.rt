@@ -1,4 +1,4 @@
-// Transforms on lent blocks of hidden pairs, under every scheme: the place of a sample, the search for a malformed pair, one stage,
+// Transforms on lent blocks of hidden pairs, under every scheme: the place of a sample, the search for a malformed pair, the stages,
 // one direct line.
 #![tactic(auto)]
 
@@ -10,5 +10,5 @@ mod search;
 
 pub use direct::direct_line;
 pub use place::place_of;
-pub use radix::stage;
+pub use radix::{stage, stage_count};
 pub use search::first_malformed;

@@ -6,8 +6,8 @@ ghost use Rattle.stages.specs.Place.{Placed};
 use plan::{Method, Plan};
 use refusal::Refusal;
 
-// The digits of n to the base `radix` reversed, as many as the size, a power of the radix, has zeros. Tried with
-// the radix as a const parameter, and the proof didn't close: a recursion over one gets none.
+// The digits of n to the base `radix` reversed, as many as the size, a power of the radix, has zeros.
+// Kept: tried with the radix as a const parameter, and the proof didn't close: a recursion over one gets none.
 fn reversed(radix: usize, size: usize, n: usize) -> usize
     requires { 1 < radix }
     ensures value { (u : ℕ) → size ≡ radix ^ u → result ≡ reversed_of radix u n }

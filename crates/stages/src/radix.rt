@@ -1,6 +1,7 @@
 // The stages of radix 2 and 4, in place.
 ghost use Rattle.std.specs.Prelude.{◌≡◌, ℕ, ◌+◌, ◌*◌, ◌^◌, ◌<◌, ◌≤◌, length};
 ghost use Rattle.plan.specs.Methods.{base};
+ghost use Rattle.lines.specs.Lines.{stage_count as stage_count_of};
 ghost use Rattle.stages.specs.Stage.{Making, PowerBelow, StageAnswer, stages_in};
 
 use crate::butterfly::{Butterfly, Radix};
@@ -8,6 +9,17 @@ use crate::search::all_well_formed;
 use plan::{Method, Plan};
 use refusal::Refusal;
 use scheme::Scheme;
+
+// The number of stages of a plan: none for direct lines, else the exponent of its size as a power of the radix.
+pub fn stage_count(plan: &Plan) -> usize
+    ensures { result ≡ stage_count_of plan.now.method plan.now.size }
+{
+    match plan.method() {
+        Method::Direct => 0,
+        Method::Radix2 => plan.size().trailing_zeros() as usize,
+        Method::Radix4 => plan.size().trailing_zeros() as usize / 2,
+    }
+}
 
 // Every butterfly of a stage, group after group.
 fn cross_all<S: Radix<R>, const R: usize>(
@@ -23,7 +35,7 @@ fn cross_all<S: Radix<R>, const R: usize>(
     ensures made { (t : ℕ) → span ≡ R ^ t → Making (S.meaning s.old) scale R t groups (groups * span) block.old block.new }
     ensures frame { S.meaning s.new ≡ S.meaning s.old }
 {
-    // By number: tried with chunks_exact_mut, and the proof didn't close, since after it no pair of the block is known.
+    // Kept: tried with chunks_exact_mut, and the proof didn't close, since after it no pair of the block is known.
     for group in 0..groups {
         for k in 0..span {
             let butterfly = Butterfly::<R> {

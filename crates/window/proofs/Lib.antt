@@ -1,4 +1,3 @@
 pub mod Searching
 pub mod Staging
-pub mod Counting
 pub mod Stepping

@@ -1,6 +1,7 @@
 -- What the parts of a call answer: declined as the step says, with the block as it was, or done.
-use Rattle.std.specs.Prelude.{◌≡◌, ℕ, ◌<◌, [], Some, None, Ok, Err, Result, slice_set}
+use Rattle.std.specs.Prelude.{◌≡◌, ℕ, ◌<◌, ◌==◌, true, false, [], Some, None, Ok, Err, Result, slice_set}
 use Rattle.refusal.specs.declared.kinds.Refusal.{Refusal}
+use Rattle.refusal.specs.declared.kinds.Refusal.TheVariants.{Strange}
 use Rattle.plan.specs.declared.method.Method.{Method}
 use Rattle.plan.specs.declared.plan.Plan.{Plan}
 use Rattle.plan.specs.Making.{Has}
@@ -17,6 +18,11 @@ use Rattle.states.specs.Step.{Pairs, plan_declined, declined, line_malformed, li
 abbrev pub Planning : {N : Type 0} → Meaning N → Pairs N → Method → ℕ → ℕ → ℕ → Result Kept Refusal → Type 0
 Planning m bl k size q1 q2 (Ok kept) = (plan_declined m bl k size q1 q2 ≡ None) × Has kept.plan k size q1 q2 × (kept.modulus ≡ m.modulus)
 Planning m bl k size q1 q2 (Err x) = plan_declined m bl k size q1 q2 ≡ Some x
+
+-- the scheme has the modulus that the plan was made for
+abbrev pub Same : {N : Type 0} → Meaning N → Kept → Result (Unit {0}) Refusal → Type 0
+Same m kept (Ok _) = (m.modulus == kept.modulus) ≡ true
+Same m kept (Err e) = ((m.modulus == kept.modulus) ≡ false) × (e ≡ Strange)
 
 -- loading the pair as sample n, which there is, is not declined, whatever the block holds
 abbrev pub Checking : {N : Type 0} → Meaning N → Kept → ℕ → ℕ → N × N → Result (Unit {0}) Refusal → Type 0

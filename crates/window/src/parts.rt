@@ -3,37 +3,27 @@
 // two would be no plainer: a loan stands in it, so each method that writes would say `lender` of it in place of this fact.
 ghost use Rattle.std.specs.Prelude.{◌≡◌, ◌<◌, ◌≤◌, length};
 ghost use Rattle.states.specs.Step.{progress as progress_of, stages_for};
-ghost use Rattle.window.specs.Parts.{Planning, Checking, Loading, Advancing, Reading, Opening};
+ghost use Rattle.window.specs.Parts.{Planning, Same, Checking, Loading, Advancing, Reading, Opening};
 
 use plan::{Method, Plan};
 use refusal::Refusal;
 use scheme::{Scheme, pairs};
-use stages::{direct_line, place_of, stage};
+use stages::{direct_line, place_of, stage, stage_count};
 use states::{Kept, Line, State};
-
-// The number of stages of a plan.
-fn stages_of(plan: &Plan) -> usize
-    ensures { result ≡ stages_for plan.now }
-{
-    match plan.method() {
-        Method::Direct => 0,
-        Method::Radix2 => plan.size().trailing_zeros() as usize,
-        Method::Radix4 => plan.size().trailing_zeros() as usize / 2,
-    }
-}
 
 // The state after so many stages.
 pub(crate) fn progress(kept: Kept, done: usize) -> State
     ensures { result ≡ progress_of kept done }
 {
-    if done == stages_of(&kept.plan) {
+    if done == stage_count(&kept.plan) {
         State::Finished { kept }
     } else {
         State::Running { kept, done }
     }
 }
 
-// The plan of these numbers and the scheme's modulus, or why they are declined.
+// The plan of these numbers and the scheme's modulus, or why they are declined. Kept: four numbers as they are asked for. A struct of
+// them would be no plainer: a second `Plan`, of which nothing holds.
 pub(crate) fn plan_for<S: Scheme>(
     s: &mut S,
     block: &[(S::Number, S::Number)],
@@ -54,6 +44,17 @@ pub(crate) fn plan_for<S: Scheme>(
     Ok(Kept { plan, modulus })
 }
 
+// Refuses with Strange where the scheme has another modulus than the plan was made for.
+fn same_modulus<S: Scheme>(s: &mut S, kept: &Kept) -> Result<(), Refusal>
+    ensures value { Same (S.meaning s.old) kept.now result }
+    ensures frame { S.meaning s.new ≡ S.meaning s.old }
+{
+    if s.modulus() != kept.modulus {
+        return Err(Refusal::Strange);
+    }
+    Ok(())
+}
+
 // Why loading the pair as sample n, with `count` samples loaded, is declined.
 fn check_load<S: Scheme>(
     s: &mut S,
@@ -65,12 +66,11 @@ fn check_load<S: Scheme>(
     ensures value { Checking (S.meaning s.old) kept.now count n pair result }
     ensures frame { S.meaning s.new ≡ S.meaning s.old }
 {
+    // Kept: the session asks the same before it seals. A method of `Kept` would be no plainer: its contract would say this line again.
     if n > count || n >= kept.plan.size() {
         return Err(Refusal::Place);
     }
-    if s.modulus() != kept.modulus {
-        return Err(Refusal::Strange);
-    }
+    same_modulus(s, kept)?;
     if !pairs::test(s, pair) {
         return Err(Refusal::Malformed(n));
     }
@@ -108,13 +108,12 @@ pub(crate) fn advance_at<S: Scheme>(
     ensures value { Advancing (S.meaning s.old) kept.now t block.old block.new result }
     ensures frame { S.meaning s.new ≡ S.meaning s.old }
 {
-    if s.modulus() != kept.modulus {
-        return Err(Refusal::Strange);
-    }
+    same_modulus(s, kept)?;
     stage(s, &kept.plan, t, block)
 }
 
-// A hidden pair that stands for line k: a direct line is worked out, a radix line stands at place k.
+// A hidden pair that stands for line k: a direct line is worked out, a radix line stands at place k. Kept: a program chooses so too,
+// and tests no pair. A function for both would be no plainer: it would have to ask for a long enough block or refuse one.
 fn read_line<S: Scheme>(
     s: &mut S,
     plan: &Plan,
@@ -152,9 +151,7 @@ pub(crate) fn line_at<S: Scheme>(
     if k >= kept.plan.size() {
         return Err(Refusal::Place);
     }
-    if s.modulus() != kept.modulus {
-        return Err(Refusal::Strange);
-    }
+    same_modulus(s, kept)?;
     let pair = read_line(s, &kept.plan, k, block)?;
     let value = pairs::open(s, pair);
     let figures = kept.plan.figures();

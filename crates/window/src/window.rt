@@ -13,7 +13,8 @@ use scheme::Scheme;
 use states::{Answer, Call, Line, State};
 
 // A window over a lent block of hidden pairs, real part first. The block comes back to its owner with what it then holds.
-// The clause `lender` below, that the block is the same loan after a call, is kept: it is of two moments, and no type carries it.
+// Kept: the clause `lender` at each call, that the block is the same loan after it. Facts in the type would be no plainer: they are of
+// one moment, this one is of two, and each call would still have to state it.
 #[derive(Drop)]
 pub struct Window<'a, S: Scheme> {
     block: &'a mut [(S::Number, S::Number)],
@@ -76,9 +77,7 @@ impl<'a, S: Scheme> Window<'a, S> {
                 *state = parts::progress(kept, done + 1);
                 Ok(None)
             }
-            (State::Finished { kept }, Call::Line { k }) => {
-                parts::line_at(s, &kept, k, block).map(Some)
-            }
+            (_, Call::Line { k }) => self.line(s, k).map(Some),
             (_, Call::Restart) => self.restart().map(|_| None),
             _ => Err(Refusal::Moment),
         }
@@ -154,7 +153,12 @@ impl<'a, S: Scheme> Window<'a, S> {
         ensures frame { S.meaning s.new ≡ S.meaning s.old }
         ensures lender { self.new.block.ghost_name ≡ self.old.block.ghost_name }
     {
-        self.call(s, Call::Line { k })?.ok_or(Refusal::Moment)
+        let Window { block, state } = self;
+        let block = &mut **block;
+        let State::Finished { kept } = *state else {
+            return Err(Refusal::Moment);
+        };
+        parts::line_at(s, &kept, k, block)
     }
 
     // Back to no samples under the plan in force. Refuses with Moment where there is no plan. What it does hangs on no scheme.

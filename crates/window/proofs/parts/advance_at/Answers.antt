@@ -1,4 +1,4 @@
-use Rattle.std.proofs.Common.{◌≡◌, true, eqb, sym, ◌∙◌, subst, eq-eqb}
+use Rattle.std.proofs.Common.{◌≡◌, true, eqb, ◌∙◌, subst}
 use Rattle.stages.specs.Stage.{StageAnswer}
 use Rattle.window.proofs.Staging.{advancing}
 use Rattle.window.proofs.parts.advance_at.Goals as goal
@@ -7,8 +7,8 @@ pub returns : goal.returns
 returns g c =
     let m = g.S.Scheme.meaning c.args.s.now in
     let kept = c.args.kept.now in
-    let f : g.S.Scheme.meaning c.modulus.new.self ≡ m = c.modulus.ensures.frame in
-    let e : eqb m.modulus kept.modulus ≡ true = eq-eqb m.modulus kept.modulus (sym c.modulus.ensures.value ∙ c.if-modulus-kept.false) in
+    let f : g.S.Scheme.meaning c.same_modulus.new.s ≡ m = c.same_modulus.ensures.frame in
+    let e : eqb m.modulus kept.modulus ≡ true = c.in_ok-same_modulus.ensures.value in
     let h : StageAnswer m kept.plan c.args.t c.args.block.now c.stage.new.block c.stage.result =
     subst (λ w. StageAnswer w kept.plan c.args.t c.args.block.now c.stage.new.block c.stage.result) f c.stage.ensures.value
     in

@@ -1,5 +1,5 @@
-use Rattle.window.proofs.Counting.{stages2, stages4}
-use Rattle.window.proofs.parts.stages_of.Goals as goal
+use Rattle.stages.proofs.Counting.{stages2, stages4}
+use Rattle.stages.proofs.radix.stage_count.Goals as goal
 
 pub returns-in-Radix2 : goal.returns-in-Radix2
 returns-in-Radix2 c =
