@@ -72,7 +72,7 @@ pub fn direct_line<S: Scheme>(
     if k >= size {
         return Err(Refusal::Place);
     }
-    all_well_formed(s, block, size)?;
+    all_well_formed(s, samples)?;
     let line = Line {
         scale: plan.twiddle_scale(),
         size,

@@ -73,7 +73,7 @@ fn stage_of_radix<S: Radix<R>, const R: usize>(
 {
     let size = plan.size();
     let span = power_below(R, t, size).ok_or(Refusal::Moment)?;
-    all_well_formed(s, block, size)?;
+    all_well_formed(s, &block[..size])?;
     let groups = size / (R * span);
     cross_all(s, plan.twiddle_scale(), span, groups, block);
     Ok(())

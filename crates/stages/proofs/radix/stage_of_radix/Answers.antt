@@ -1,9 +1,10 @@
-use Rattle.std.proofs.Common.{◌≡◌, ℕ, ◌*◌, ◌/◌, ◌^◌, length, Some, None, Err, Option, sym, ap, ◌∙◌, subst}
+use Rattle.std.proofs.Common.{◌≡◌, ℕ, ◌*◌, ◌/◌, ◌^◌, length, Some, None, Ok, Err, Option, sym, refl, ap, ◌∙◌, subst, arith}
 use Rattle.std.proofs.lemmas.Result.{err_from_is_err_and}
 use Rattle.plan.specs.declared.plan.Plan.{Plan}
 use Rattle.plan.specs.Methods.{base}
 use Rattle.stages.specs.Search.{Found, Tested}
 use Rattle.stages.specs.Stage.{Making, PowerBelow, stages_in}
+use Rattle.stages.proofs.Blocks.{tested_cut}
 use Rattle.stages.proofs.Finishing.{finished, refused, no_moment, not_formed}
 use Rattle.stages.proofs.Shapes.{Shape, shaped, size_step}
 use Rattle.stages.proofs.radix.stage_of_radix.Goals as goal
@@ -31,7 +32,7 @@ returns-in_err-all_well_formed-clause-value g c =
     let r = c.from_residual-in_err-all_well_formed.result in
     let f0 = c.in_err-all_well_formed.field-0.0 in
     let e = err_from_is_err_and r c.from_residual-in_err-all_well_formed.ensures.1 in
-    let h : Tested m xs p.size (Err f0) = subst (λ n. Tested m xs n (Err f0)) c.size-size.ensures c.in_err-all_well_formed.ensures.value in
+    let h : Tested m xs p.size (Err f0) = subst (λ n. Tested m xs n (Err f0)) c.size-size.ensures (tested_cut m c.size-size.result xs _ (Err f0) (omega (arith, c.size-size.ensures, c.requires.long)) refl c.in_err-all_well_formed.ensures.value) in
     refused m p c.args.t xs r f0 e.0 e.1 (sym e.2) (not_formed m p c.args.t xs f0 c.requires.long (shape c.args.plan.now c.args.t g.row.R c.size-size.result c.in_ok-span.span c.power_below.result c.requires.radix c.requires.powers c.size-size.ensures c.power_below.ensures c.in_ok-span.ensures.ok_part).moment h)
 
 pub nonzero_div-groups : goal.nonzero_div-groups
@@ -50,7 +51,7 @@ returns-clause-value g c =
     let q = c.twiddle_scale.result in
     let before = c.args.block.now in
     let after = c.cross_all.new.block in
-    let formed : Found m before p.size None = subst (λ n. Found m before n None) z c.in_ok-all_well_formed.ensures.value in
+    let formed : Found m before p.size None = subst (λ n. Found m before n None) z (tested_cut m size before _ (Ok tt) (omega (arith, z, c.requires.long)) refl c.in_ok-all_well_formed.ensures.value) in
     let made : (t : ℕ) → span ≡ r ^ t → Making m q r t groups (groups * span) before after =
     subst (λ w. (t : ℕ) → span ≡ r ^ t → Making w q r t groups (groups * span) before after) f c.cross_all.ensures.made
     in
