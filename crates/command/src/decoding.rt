@@ -94,7 +94,7 @@ fn read_load(text: &[u8]) -> Option<Command>
     let (im, text) = value_then(text)?;
     let (first, text) = value_then(text)?;
     let second = u64::from_field(text)?;
-    // `as`, since no From leads from u64 to usize, and a try_from would answer an error that cannot come.
+    // Kept: `as`, since no From leads from u64 to usize. A try_from is no plainer: it would answer an error that cannot come.
     Some(Command::Load {
         n: n as usize,
         sample: Complex { re, im },
@@ -106,6 +106,7 @@ fn read_load(text: &[u8]) -> Option<Command>
 fn read_line(text: &[u8]) -> Option<Command>
     ensures { result ≡ line_of text.now }
 {
+    // Kept: `as`, as for the number of a sample.
     u64::from_field(text).map(|k| Command::Line { k: k as usize })
 }
 

@@ -66,7 +66,7 @@ impl FromField for i64 {
     ghost value_of = { whole_of };
 
     fn from_field(field: &[u8]) -> Option<i64> {
-        // `as`, since no From leads from u64 to i64, and a try_from would answer an error that the limit rules out.
+        // Kept: `as`, since no From leads from u64 to i64. A try_from is no plainer: it would answer an error that the limit rules out.
         match field {
             [b'-', digits @ ..] => u64::from_field(digits).map(|n| -(n as i64)),
             _ => u64::from_field(field).map(|n| n as i64),

@@ -14,10 +14,13 @@ pub enum Choice {
 }
 
 // What a line of the console asks for.
+// Kept: six variants have the names of those of `states::Call`. One type for both is no plainer: a load carries a sample and mask words
+// here and a sealed pair there, and a command has no type of hidden numbers.
 #[derive(Clone, Copy)]
 pub enum Command {
     // a new window under a scheme
     Choose(Choice),
+    // Kept: four numbers as they are typed. A struct of them is no plainer: a second `Plan`, of which nothing holds.
     Plan {
         method: Method,
         size: u64,

@@ -7,7 +7,9 @@ use states::Line;
 use std::alloc::{AllocError, Global};
 use std::fmt;
 
-// An answer as it is written: 'ok', 'no,11', 'g,1,-2,2,1,0'. A type of its own, since Display cannot be written for std's Result.
+// An answer as it is written: 'ok', 'no,11', 'g,1,-2,2,1,0'.
+// Kept: a type of its own, since Display cannot be written for std's Result. A function that answers the text is no plainer: it would
+// need the heap.
 #[derive(Clone, Copy)]
 pub struct Answer {
     pub answer: states::Answer,

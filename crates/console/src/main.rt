@@ -12,6 +12,7 @@ use std::io::Read;
 fn serve(rt: &HostRuntime) -> anyhow::Result<()> {
     let heap = rt.alloc();
     let mut input = Vec::new(heap);
+    // Kept: `as`, since no From leads from usize to u64. A try_from is no plainer: it would answer an error that cannot come.
     rt.stdin().take(LIMIT as u64 + 1).read_to_end(&mut input)?;
     let output = reply(input.as_slice(), heap)?;
     print!(rt; "{output}")?;

@@ -2,8 +2,8 @@
 use plain::Plain;
 use system::System;
 
-// A scheme that was chosen: plain residues, a residue system, or the split over plain residues. An enum and no dyn: each scheme has
-// hidden numbers of its own type, and a function that hands out a dyn is refused.
+// A scheme that was chosen: plain residues, a residue system, or the split over plain residues.
+// Kept: an enum, since the project's rule lets no function hand out a dyn, and each scheme has hidden numbers of its own type.
 #[derive(Clone, Copy)]
 pub enum Chosen {
     Plain(Plain),

@@ -109,6 +109,8 @@ impl<'a> Session<'a> {
 }
 
 // A block of 256 pairs of zeros.
+// Kept: `empty_block` of harmonics_cycle differs in the size alone. One function for both is no plainer: a library's, with two clauses,
+// for one `vec!`.
 fn new_block<S: Scheme>(s: &mut S, heap: Global) -> Result<Vec<(S::Number, S::Number)>, AllocError>
     ensures long { IfOk result (λ v. vec_len v ≡ 256) }
     ensures frame { S.meaning s.new ≡ S.meaning s.old }

@@ -20,6 +20,7 @@ fn limit_for(state: State, n: usize) -> Result<u64, Refusal>
     let State::Filling { kept, count } = state else {
         return Err(Refusal::Moment);
     };
+    // Kept: the window makes this test too. A method of `Kept` is no plainer: a public function of states, with a contract, for one line.
     if n > count || n >= kept.plan.size() {
         return Err(Refusal::Place);
     }
@@ -42,7 +43,8 @@ fn load<S: Scheme>(
     window.load(s, n, pair)
 }
 
-// The choice of a scheme: the scheme, or the answer that declines it. A match, since map_or_else over two constructors is no plainer.
+// The choice of a scheme: the scheme, or the answer that declines it.
+// Kept: a match. `map_or_else` is no plainer: it takes the refusal first, and a closure for it.
 fn choose(choice: Choice) -> ControlFlow<Chosen, Answer>
     ensures { Choosing choice result }
 {
@@ -61,9 +63,9 @@ pub(crate) fn turn<S: Scheme>(
     ensures turning { Turning (S.meaning s.old) window.old.state window.old.block.now line result window.new.state window.new.block.now }
     ensures frame { S.meaning s.new ≡ S.meaning s.old }
 {
-    match line {
-        Err(_) => ControlFlow::Continue(Err(Refusal::Garbled)),
-        Ok(Command::Choose(choice)) => choose(choice),
+    let answer = match line {
+        Err(_) => Err(Refusal::Garbled),
+        Ok(Command::Choose(choice)) => return choose(choice),
         Ok(
             Command::Plan {
                 method,
@@ -71,29 +73,30 @@ pub(crate) fn turn<S: Scheme>(
                 sample_scale,
                 twiddle_scale,
             },
-        ) => ControlFlow::Continue(
-            window
-                .plan(s, method, size, sample_scale, twiddle_scale)
-                .map(|()| None),
-        ),
+        ) => window
+            .plan(s, method, size, sample_scale, twiddle_scale)
+            .map(|()| None),
         Ok(Command::Load { n, sample, words }) => {
-            ControlFlow::Continue(load(window, s, n, sample, words).map(|()| None))
+            load(window, s, n, sample, words).map(|()| None)
         }
-        Ok(Command::Begin) => ControlFlow::Continue(window.begin().map(|()| None)),
-        Ok(Command::Advance) => ControlFlow::Continue(window.advance(s).map(|()| None)),
-        Ok(Command::Line { k }) => ControlFlow::Continue(window.line(s, k).map(Some)),
-        Ok(Command::Restart) => ControlFlow::Continue(window.restart().map(|()| None)),
-    }
+        Ok(Command::Begin) => window.begin().map(|()| None),
+        Ok(Command::Advance) => window.advance(s).map(|()| None),
+        Ok(Command::Line { k }) => window.line(s, k).map(Some),
+        Ok(Command::Restart) => window.restart().map(|()| None),
+    };
+    ControlFlow::Continue(answer)
 }
 
-// One line where there is no window yet: a scheme may be chosen, any other command is declined with Moment. Two arms are those of turn:
-// one function that takes the answer of a command as a closure is no plainer, since its match would name the choice a second time.
+// One line where there is no window yet: a scheme may be chosen, any other command is declined with Moment.
+// Kept: two arms are those of `turn`. One function that takes the answer of a command as a closure is no plainer: the match in the
+// closure would name the choice a second time.
 pub(crate) fn turn_absent(line: Result<Command, Refusal>) -> ControlFlow<Chosen, Answer>
     ensures { TurningAbsent line result }
 {
-    match line {
-        Err(_) => ControlFlow::Continue(Err(Refusal::Garbled)),
-        Ok(Command::Choose(choice)) => choose(choice),
-        Ok(_) => ControlFlow::Continue(Err(Refusal::Moment)),
-    }
+    let refusal = match line {
+        Err(_) => Refusal::Garbled,
+        Ok(Command::Choose(choice)) => return choose(choice),
+        Ok(_) => Refusal::Moment,
+    };
+    ControlFlow::Continue(Err(refusal))
 }
