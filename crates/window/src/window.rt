@@ -71,14 +71,14 @@ impl<'a, S: Scheme> Window<'a, S> {
                 *state = State::Filling { kept, count };
                 Ok(None)
             }
-            (_, Call::Begin) => self.begin().map(|_| None),
+            (_, Call::Begin) => self.begin().map(|()| None),
             (State::Running { kept, done }, Call::Advance) => {
                 parts::advance_at(s, &kept, done, block)?;
                 *state = parts::progress(kept, done + 1);
                 Ok(None)
             }
             (_, Call::Line { k }) => self.line(s, k).map(Some),
-            (_, Call::Restart) => self.restart().map(|_| None),
+            (_, Call::Restart) => self.restart().map(|()| None),
             _ => Err(Refusal::Moment),
         }
     }
