@@ -24,6 +24,8 @@ pub fn run<S: Scheme>(
 {
     let mut window = Window::new(block);
     let mut answers = Vec::new(heap);
+    // Kept: tried with map and collect, and the proof didn't close: after them nothing is known of the block and the scheme, which the
+    // closure borrows.
     for call in calls {
         let answer = window.call(s, *call);
         answers.push(answer)?;
