@@ -14,8 +14,8 @@ use scheme::{Scheme, pairs};
 // A scheme with the butterfly of radix R: each of R pairs becomes the sum of all of them, turned by powers of −j.
 pub(crate) trait Radix<const R: usize>: Scheme {
     // The butterfly in place, on the pairs at first, first + span, .., first + (R − 1)·span.
-    // Kept: tried with an array of R pairs, and the proof didn't close: in an impl for radix 2 or 4 the array `[pair; 2]` or `[pair; 4]`
-    // is not taken for the trait's `[pair; R]`, and each call owes that R pairs are smaller than 2^63 bytes.
+    // Kept: tried with an array of R pairs, and the proof didn't close: an impl for every scheme takes an array of 2 or of 4 of its pairs,
+    // and that signature is not fitted to the trait's, of R pairs.
     fn butterfly(&mut self, first: usize, span: usize, block: &mut [(Self::Number, Self::Number)])
         requires apart { 0 < span }
         requires within { first + (R - 1) * span < length block.old }
