@@ -6,8 +6,9 @@ use refusal::Refusal;
 use scheme::{Scheme, pairs};
 
 // The first among the first `count` places that holds no well-formed pair; a place past the end of the block holds none. None where
-// all of them hold one. Kept: a block beside a count. A slice of the places would be no plainer: the count may lie past the end, and
-// the answer is then the first place that is not there.
+// all of them hold one.
+// Kept: a block beside a count. A slice of the places would be no plainer: the count may lie past the end, and the answer is then
+// the first place that is not there.
 pub fn first_malformed<S: Scheme>(
     s: &mut S,
     block: &[(S::Number, S::Number)],

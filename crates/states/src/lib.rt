@@ -25,8 +25,9 @@ pub enum State {
     Finished { kept: Kept },
 }
 
-// A call of a window, N the hidden numbers. Kept: a command of the console has these six too. One enum for both would be no plainer:
-// a command loads a sample yet to be sealed, and knows no type of hidden numbers.
+// A call of a window, N the hidden numbers.
+// Kept: a command of the console has these six too. One enum for both would be no plainer: a command loads a sample yet to be
+// sealed, and knows no type of hidden numbers.
 #[derive(Clone, Copy)]
 pub enum Call<N> {
     // Kept: four numbers as they are asked for, here and in `Window::plan`. A struct of them would be no plainer: a second `Plan`, of
@@ -49,8 +50,9 @@ pub enum Call<N> {
     Restart,
 }
 
-// An opened line: which, its two components, and the scale and distance that it is stated with. Kept: two components, where crate
-// integers has `Complex`. A field of that type would be no plainer: they are public and read one by one, in code and in statements.
+// An opened line: which, its two components, and the scale and distance that it is stated with.
+// Kept: two components, where crate integers has `Complex`. A field of that type would be no plainer: they are public and read one
+// by one, in code and in statements.
 #[derive(Clone, Copy, PartialEq, Eq, Debug)]
 pub struct Line {
     pub index: usize,

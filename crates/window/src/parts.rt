@@ -22,8 +22,8 @@ pub(crate) fn progress(kept: Kept, done: usize) -> State
     }
 }
 
-// The plan of these numbers and the scheme's modulus, or why they are declined. Kept: four numbers as they are asked for. A struct of
-// them would be no plainer: a second `Plan`, of which nothing holds.
+// The plan of these numbers and the scheme's modulus, or why they are declined.
+// Kept: four numbers as they are asked for. A struct of them would be no plainer: a second `Plan`, of which nothing holds.
 pub(crate) fn plan_for<S: Scheme>(
     s: &mut S,
     block: &[(S::Number, S::Number)],
@@ -112,8 +112,9 @@ pub(crate) fn advance_at<S: Scheme>(
     stage(s, &kept.plan, t, block)
 }
 
-// A hidden pair that stands for line k: a direct line is worked out, a radix line stands at place k. Kept: a program chooses so too,
-// and tests no pair. A function for both would be no plainer: it would have to ask for a long enough block or refuse one.
+// A hidden pair that stands for line k: a direct line is worked out, a radix line stands at place k.
+// Kept: a program chooses so too, and tests no pair. A function for both would be no plainer: it would have to ask for a long enough
+// block or refuse one.
 fn read_line<S: Scheme>(
     s: &mut S,
     plan: &Plan,
