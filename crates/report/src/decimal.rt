@@ -16,6 +16,8 @@ pub struct Decimal {
 }
 
 // size/scale to the nearest whole number, halves upward.
+// Kept: circle rounds so too, but in 64 bits and by a constant, so that it is total. One function for both widths would be generic over the
+// integers, and this with the sign in `ratio` is eight lines of plain arithmetic: no plainer.
 fn nearest(size: u128, scale: u128) -> u128
     requires positive { 0 < scale }
     requires small { size < 2 ^ 127 }
@@ -54,9 +56,7 @@ impl Decimal {
         let hundredths = i128::try_from(size.checked_mul(100)?.div_ceil(scale)).ok()?;
         Some(Decimal { hundredths })
     }
-}
 
-impl Decimal {
     fn sign(&self) -> &'static str
         ensures { result.now ≡ sign_text (is_negative self.now.hundredths) }
     {
@@ -69,11 +69,8 @@ impl Decimal {
     {
         let sign = self.sign();
         let size = self.hundredths.unsigned_abs();
-        let whole = size / 100;
-        let tenths = size / 10 % 10;
-        let hundredths = size % 10;
         let mut text = InlineText::new();
-        write!(text, "{sign}{whole}.{tenths}{hundredths}")?;
+        write!(text, "{sign}{}.{:02}", size / 100, size % 100)?;
         Ok(text)
     }
 }
