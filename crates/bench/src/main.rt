@@ -7,8 +7,8 @@ use plain::Plain;
 use plan::{Method, Plan};
 use refusal::Refusal;
 use scheme::{Scheme, pairs};
-use split::{Halves, Split};
-use stages::{place_of, stage};
+use split::Split;
+use stages::{place_of, stage, stage_count};
 use std::env;
 use std::time::Instant;
 
@@ -18,71 +18,68 @@ fn sample(n: usize) -> Complex {
     Complex { re, im: -re }
 }
 
-// Seals every sample and puts it at its place. The load of transforms_sweep, which draws other samples, stays beside this one: to share
-// these six lines is no plainer, since it takes a library of its own, with a contract and its proof, under two programs that assume none.
-fn load<S: Scheme>(
-    s: &mut S,
-    plan: &Plan,
-    block: &mut [(S::Number, S::Number)],
-) -> Result<(), Refusal> {
-    for n in 0..plan.size() {
-        let pair = pairs::seal(s, 1000, sample(n), (1, 1))?;
-        let place = place_of(plan, n)?;
-        *block.get_mut(place).ok_or(Refusal::Block)? = pair;
-    }
-    Ok(())
+// A scheme, a plan that is timed under it, and a block of the scheme's hidden pairs.
+#[derive(Drop)]
+struct Bench<'a, S: Scheme> {
+    s: &'a mut S,
+    plan: &'a Plan,
+    block: &'a mut [(S::Number, S::Number)],
 }
 
-// One whole transform: four stages over the 256 places.
-fn transform<S: Scheme>(
-    s: &mut S,
-    plan: &Plan,
-    block: &mut [(S::Number, S::Number)],
-) -> Result<(), Refusal> {
-    for t in 0..4 {
-        stage(s, plan, t, block)?;
+impl<'a, S: Scheme> Bench<'a, S> {
+    fn new(s: &'a mut S, plan: &'a Plan, block: &'a mut [(S::Number, S::Number)]) -> Bench<'a, S> {
+        Bench { s, plan, block }
     }
-    Ok(())
-}
 
-// The exclusive or of the two components of every line.
-fn checksum<S: Scheme>(s: &mut S, block: &[(S::Number, S::Number)]) -> i64 {
-    block.iter().fold(0, |sum, pair| {
-        let Complex { re, im } = pairs::open(s, *pair);
-        sum ^ re ^ im
-    })
-}
-
-// Loads and transforms so many times; the checksum of the last transform.
-fn rounds<S: Scheme>(
-    s: &mut S,
-    plan: &Plan,
-    block: &mut [(S::Number, S::Number)],
-    count: u64,
-) -> Result<i64, Refusal> {
-    for _ in 0..count {
-        load(s, plan, block)?;
-        transform(s, plan, block)?;
+    // Seals every sample and puts it at its place.
+    // Kept: beside the load of transforms_sweep, which draws other samples. One for both would be a public function of stages, the library
+    // that knows the places, with a contract on every place of the block: no plainer than these six lines.
+    fn load(&mut self) -> Result<(), Refusal> {
+        for n in 0..self.plan.size() {
+            let pair = pairs::seal(self.s, 1000, sample(n), (1, 1))?;
+            let place = place_of(self.plan, n)?;
+            *self.block.get_mut(place).ok_or(Refusal::Block)? = pair;
+        }
+        Ok(())
     }
-    Ok(checksum(s, block))
-}
 
-fn report<S: Scheme>(
-    rt: &HostRuntime,
-    name: &str,
-    s: &mut S,
-    plan: &Plan,
-    block: &mut [(S::Number, S::Number)],
-    count: Option<u64>,
-) -> anyhow::Result<()> {
-    let start = Instant::now(rt)?;
-    let sum = rounds(s, plan, block, count.unwrap_or(1))?;
-    let time = start.elapsed(rt)?.as_micros();
-    println!(rt; "{name}: checksum {sum}")?;
-    if let Some(count) = count {
-        println!(rt; "{name}: {count} transforms in {time} microseconds")?;
+    // One whole transform: every stage of the plan.
+    fn transform(&mut self) -> Result<(), Refusal> {
+        for t in 0..stage_count(self.plan) {
+            stage(self.s, self.plan, t, self.block)?;
+        }
+        Ok(())
     }
-    Ok(())
+
+    // The exclusive or of the two components of every line.
+    fn checksum(&mut self) -> i64 {
+        let block = &mut *self.block;
+        block.iter().fold(0, |sum, pair| {
+            let Complex { re, im } = pairs::open(self.s, *pair);
+            sum ^ re ^ im
+        })
+    }
+
+    // Loads and transforms so many times; the checksum of the last transform.
+    fn rounds(&mut self, count: u64) -> Result<i64, Refusal> {
+        for _ in 0..count {
+            self.load()?;
+            self.transform()?;
+        }
+        Ok(self.checksum())
+    }
+
+    // The checksum, and with a number of rounds their time.
+    fn report(&mut self, rt: &HostRuntime, name: &str, count: Option<u64>) -> anyhow::Result<()> {
+        let start = Instant::now(rt)?;
+        let sum = self.rounds(count.unwrap_or(1))?;
+        let time = start.elapsed(rt)?.as_micros();
+        println!(rt; "{name}: checksum {sum}")?;
+        if let Some(count) = count {
+            println!(rt; "{name}: {count} transforms in {time} microseconds")?;
+        }
+        Ok(())
+    }
 }
 
 fn main(rt: HostRuntime) -> anyhow::Result<()> {
@@ -92,17 +89,10 @@ fn main(rt: HostRuntime) -> anyhow::Result<()> {
         .transpose()?;
     let plan = Plan::new(Method::Radix4, 256, 1000, 100)?;
     let mut plain = Plain::new((1 << 61) - 1)?;
-    report(&rt, "plain", &mut plain, &plan, &mut [(0, 0); 256], count)?;
-    let zero = Halves {
-        first: 0,
-        second: 0,
-    };
-    report(
-        &rt,
-        "split",
-        &mut Split::new(plain),
-        &plan,
-        &mut [(zero, zero); 256],
-        count,
-    )
+    let mut block = [(0, 0); 256];
+    Bench::new(&mut plain, &plan, &mut block).report(&rt, "plain", count)?;
+    let mut split = Split::new(plain);
+    let zero = split.zero();
+    let mut block = [(zero, zero); 256];
+    Bench::new(&mut split, &plan, &mut block).report(&rt, "split", count)
 }
