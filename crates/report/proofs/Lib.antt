@@ -1,2 +1,3 @@
 pub mod Texts
 pub mod Sums
+pub mod Folding

@@ -10,6 +10,8 @@ use circle::fine_twiddle;
 use integers::Complex;
 
 // sum + factor·sample; none where it has no room in 64 bits.
+// Kept: the factor's bound 3·2^29 stands in the clauses of this, of `plus_multiple`, of `factor` and of circle. A type that carries it is no
+// plainer: the public `fine_twiddle` answers a Complex, so the type would be made from that and taken apart again for each sum.
 fn plus_product(sum: i64, factor: i64, sample: i64) -> Option<i64>
     ensures value { IfSome result (λ x. x ≡ sum +ℤ factor *ℤ sample) }
     ensures room { unsigned_abs factor ≤ 3 * 2 ^ 29 → unsigned_abs sample ≤ 2 ^ 24 → unsigned_abs sum ≤ 3 * 2 ^ 61 → IsSome result }
@@ -42,9 +44,11 @@ pub fn fine_line(samples: &[i64], k: usize) -> Option<Complex>
     ensures value { IfSome result (λ x. x ≡ fine_line_of (length samples.now) (samples_of samples.now) k) }
     ensures room { length samples.now ≤ 256 → All (λ x. unsigned_abs x ≤ 2 ^ 24) samples.now → IsSome result }
 {
-    let mut sum = Complex { re: 0, im: 0 };
-    for (n, sample) in samples.iter().enumerate() {
-        sum = plus_multiple(sum, factor(n, k, samples.len()), *sample)?;
-    }
-    Some(sum)
+    let zero = Complex { re: 0, im: 0 };
+    samples
+        .iter()
+        .enumerate()
+        .try_fold(zero, |sum, (n, sample)| {
+            plus_multiple(sum, factor(n, k, samples.len()), *sample)
+        })
 }

@@ -8,9 +8,9 @@ use plan::{Method, Plan};
 use refusal::Refusal;
 use rerandomised::Rerandomised;
 use scheme::{Scheme, pairs};
-use split::{Halves, Split};
-use stages::{direct_line, place_of, stage};
-use system::{Residues, System};
+use split::Split;
+use stages::{direct_line, place_of, stage, stage_count};
+use system::System;
 
 // Which samples are transformed.
 #[derive(Clone, Copy)]
@@ -42,137 +42,121 @@ fn component(kind: Kind, scale: u32, n: usize, component: u64) -> i64 {
     }
 }
 
-// Seals every sample and puts it at its place. The load of bench, which takes other samples, stays beside this one: to share these six
-// lines is no plainer, since it takes a library of its own, with a contract and its proof, under two programs that assume none.
-fn load<S: Scheme>(
-    s: &mut S,
-    plan: &Plan,
-    kind: Kind,
-    block: &mut [(S::Number, S::Number)],
-) -> Result<(), Refusal> {
-    let scale = plan.sample_scale();
-    for n in 0..plan.size() {
-        let sample = Complex {
-            re: component(kind, scale, n, 1),
-            im: component(kind, scale, n, 2),
-        };
-        let pair = pairs::seal(s, u64::from(scale), sample, (1, 1))?;
-        let place = place_of(plan, n)?;
-        *block.get_mut(place).ok_or(Refusal::Block)? = pair;
+// A scheme that is swept, a block of its hidden pairs, where the lines are printed and the name that they come under.
+#[derive(Drop)]
+struct Sweep<'a, P, S: Scheme> {
+    rt: &'a P,
+    name: &'a str,
+    s: &'a mut S,
+    block: &'a mut [(S::Number, S::Number)],
+}
+
+impl<'a, P: Print, S: Scheme> Sweep<'a, P, S> {
+    fn new(
+        rt: &'a P,
+        name: &'a str,
+        s: &'a mut S,
+        block: &'a mut [(S::Number, S::Number)],
+    ) -> Sweep<'a, P, S> {
+        Sweep { rt, name, s, block }
     }
-    Ok(())
-}
 
-// Line k: worked out here by the direct method, read off the block by the others.
-fn line<S: Scheme>(
-    s: &mut S,
-    plan: &Plan,
-    k: usize,
-    block: &[(S::Number, S::Number)],
-) -> Result<Complex, Refusal> {
-    let pair = match plan.method() {
-        Method::Direct => direct_line(s, plan, k, block)?,
-        Method::Radix2 | Method::Radix4 => *block.get(k).ok_or(Refusal::Block)?,
-    };
-    Ok(pairs::open(s, pair))
-}
-
-// Loads, does every stage and prints every line.
-fn transform<S: Scheme>(
-    rt: &impl Print,
-    name: &str,
-    s: &mut S,
-    block: &mut [(S::Number, S::Number)],
-    plan: &Plan,
-    kind: Kind,
-) -> anyhow::Result<()> {
-    load(s, plan, kind, block)?;
-    for t in 0..8 {
-        if stage(s, plan, t, block).is_err() {
-            break;
+    // Seals every sample and puts it at its place.
+    // Kept: beside the load of bench, which takes other samples. One for both would be a public function of stages, the library that knows
+    // the places, with a contract on every place of the block: no plainer than these six lines.
+    fn load(&mut self, plan: &Plan, kind: Kind) -> Result<(), Refusal> {
+        let scale = plan.sample_scale();
+        for n in 0..plan.size() {
+            let sample = Complex {
+                re: component(kind, scale, n, 1),
+                im: component(kind, scale, n, 2),
+            };
+            let pair = pairs::seal(self.s, u64::from(scale), sample, (1, 1))?;
+            let place = place_of(plan, n)?;
+            *self.block.get_mut(place).ok_or(Refusal::Block)? = pair;
         }
+        Ok(())
     }
-    let method = plan.method();
-    let size = plan.size();
-    println!(rt; "{name} {method} {size}")?;
-    for k in 0..size {
-        let Complex { re, im } = line(s, plan, k, block)?;
-        println!(rt; "{k} {re} {im}")?;
-    }
-    Ok(())
-}
 
-// Every method at every lawful size for which the block has room.
-fn print_methods<S: Scheme>(
-    rt: &impl Print,
-    name: &str,
-    s: &mut S,
-    block: &mut [(S::Number, S::Number)],
-    kind: Kind,
-) -> anyhow::Result<()> {
-    let most = block.len() as u64;
-    for method in [Method::Direct, Method::Radix2, Method::Radix4] {
-        for size in [1, 2, 4, 8, 16, 32, 64, 128, 256] {
-            if size <= most && method.allows(size) {
-                let plan = Plan::new(method, size, 1000, 100)?;
-                transform(rt, name, s, block, &plan, kind)?;
+    // Line k: worked out here by the direct method, read off the block by the others.
+    // Kept: window chooses so too, of a plan whose lines it knows to stand in its block. One for both would be a public function of stages
+    // with a contract for each method: no plainer than this match.
+    fn line(&mut self, plan: &Plan, k: usize) -> Result<Complex, Refusal> {
+        let block = &mut *self.block;
+        let pair = match plan.method() {
+            Method::Direct => direct_line(self.s, plan, k, block)?,
+            Method::Radix2 | Method::Radix4 => *block.get(k).ok_or(Refusal::Block)?,
+        };
+        Ok(pairs::open(self.s, pair))
+    }
+
+    // Loads, does every stage and prints every line.
+    fn print_transform(&mut self, plan: &Plan, kind: Kind) -> anyhow::Result<()> {
+        self.load(plan, kind)?;
+        for t in 0..stage_count(plan) {
+            stage(self.s, plan, t, self.block)?;
+        }
+        let name = self.name;
+        let method = plan.method();
+        let size = plan.size();
+        println!(self.rt; "{name} {method} {size}")?;
+        for k in 0..size {
+            let Complex { re, im } = self.line(plan, k)?;
+            println!(self.rt; "{k} {re} {im}")?;
+        }
+        Ok(())
+    }
+
+    // Every method at every lawful size for which the block has room.
+    fn print_methods(&mut self, kind: Kind) -> anyhow::Result<()> {
+        let most = self.block.len() as u64;
+        for method in [Method::Direct, Method::Radix2, Method::Radix4] {
+            for size in [1, 2, 4, 8, 16, 32, 64, 128, 256] {
+                if size <= most && method.allows(size) {
+                    let plan = Plan::new(method, size, 1000, 100)?;
+                    self.print_transform(&plan, kind)?;
+                }
             }
         }
+        Ok(())
     }
-    Ok(())
 }
 
 // Plain residues, and splits over them.
 fn print_plain(rt: &impl Print) -> anyhow::Result<()> {
     let mut plain = Plain::new((1 << 62) - 1)?;
+    let mut block = [(0, 0); 256];
+    let mut sweep = Sweep::new(rt, "plain", &mut plain, &mut block);
     for kind in [Kind::Spread, Kind::Ends] {
-        print_methods(rt, "plain", &mut plain, &mut [(0, 0); 256], kind)?;
+        sweep.print_methods(kind)?;
     }
-    let once = Halves {
-        first: 0,
-        second: 0,
-    };
-    let mut split = Split::new(plain);
-    let mut block = [(once, once); 16];
-    print_methods(rt, "split", &mut split, &mut block, Kind::Spread)?;
-    let twice = Halves {
-        first: once,
-        second: once,
-    };
-    let mut split = Split::new(Split::new(plain));
-    let mut block = [(twice, twice); 16];
-    print_methods(rt, "split twice", &mut split, &mut block, Kind::Ends)
+    let mut once = Split::new(plain);
+    let zero = once.zero();
+    let mut block = [(zero, zero); 16];
+    Sweep::new(rt, "split", &mut once, &mut block).print_methods(Kind::Spread)?;
+    let mut twice = Split::new(once);
+    let zero = twice.zero();
+    let mut block = [(zero, zero); 16];
+    Sweep::new(rt, "split twice", &mut twice, &mut block).print_methods(Kind::Ends)
 }
 
 // The largest residue system, and the split over it.
 fn print_system(rt: &impl Print) -> anyhow::Result<()> {
     let mut system = System::new(1_048_575, 1_048_573, 1_048_571)?;
-    let zero = Residues {
-        first: 0,
-        second: 0,
-        third: 0,
-    };
+    let zero = system.zero();
     let mut block = [(zero, zero); 16];
-    print_methods(rt, "system", &mut system, &mut block, Kind::Spread)?;
-    let halves = Halves {
-        first: zero,
-        second: zero,
-    };
+    Sweep::new(rt, "system", &mut system, &mut block).print_methods(Kind::Spread)?;
     let mut split = Split::new(system);
-    let mut block = [(halves, halves); 16];
-    print_methods(rt, "split system", &mut split, &mut block, Kind::Ends)
+    let zero = split.zero();
+    let mut block = [(zero, zero); 16];
+    Sweep::new(rt, "split system", &mut split, &mut block).print_methods(Kind::Ends)
 }
 
 // A scheme from outside the library.
 fn print_rerandomised(rt: &impl Print) -> anyhow::Result<()> {
     let mut scheme = Rerandomised::new((1 << 62) - 1)?;
-    print_methods(
-        rt,
-        "rerandomised",
-        &mut scheme,
-        &mut [(0, 0); 16],
-        Kind::Spread,
-    )
+    let mut block = [(0, 0); 16];
+    Sweep::new(rt, "rerandomised", &mut scheme, &mut block).print_methods(Kind::Spread)
 }
 
 fn main(rt: HostRuntime) -> anyhow::Result<()> {
