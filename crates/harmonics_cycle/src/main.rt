@@ -3,6 +3,7 @@
 #![tactic(auto)]
 
 mod cards;
+mod cycle;
 mod example;
 mod houses;
 mod masks;
@@ -14,13 +15,10 @@ mod session;
 mod spectrum;
 
 use cards::print_cards;
+use cycle::Cycle;
 use example::MODULUS;
-use houses::{print_calls, print_held};
-use masks::print_masks;
 use meter::{print_meter, seal_cycle};
 use plain::Plain;
-use reader::print_reader;
-use scales::print_scales;
 use schemes::print_schemes;
 use spectrum::print_spectrum;
 use split::Split;
@@ -31,12 +29,17 @@ fn print_all(rt: &(impl Print + AllocGlobal)) -> anyhow::Result<()> {
     let sealed = seal_cycle(&mut s, rt.alloc())?;
     print_cards(rt)?;
     print_meter(rt, sealed.as_slice())?;
-    print_calls(rt, &mut s, sealed.as_slice())?;
-    print_held(rt, &mut s, sealed.as_slice())?;
-    let lines = print_reader(rt, &mut s, sealed.as_slice())?;
+    let mut cycle = Cycle {
+        rt,
+        s: &mut s,
+        sealed: sealed.as_slice(),
+    };
+    cycle.print_calls()?;
+    cycle.print_held()?;
+    let lines = cycle.print_reader()?;
     print_spectrum(rt, lines.as_slice())?;
-    print_scales(rt, &mut s, sealed.as_slice(), lines.as_slice())?;
-    print_masks(rt, &mut s, sealed.as_slice())?;
+    cycle.print_scales(lines.as_slice())?;
+    cycle.print_masks()?;
     print_schemes(rt, lines.as_slice())
 }
 

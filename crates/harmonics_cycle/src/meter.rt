@@ -42,17 +42,20 @@ impl Iterator for Generator {
 }
 
 // Every sample of the cycle, sealed with two mask words of its own.
-// Kept apart from the one in harmonics: a function of both over an iterator of words needs a `requires` for it, and is no plainer than this loop.
+// Kept: beside the one in harmonics, which has other samples and words. One for both would be a public function of a library, with a contract
+// on every sealed pair: no plainer than these lines.
 pub(crate) fn seal_cycle<S: Scheme>(
     s: &mut S,
     heap: Global,
 ) -> anyhow::Result<Vec<(S::Number, S::Number)>> {
     let masks = Generator { state: 1 };
-    let mut sealed = Vec::new(heap);
-    for (re, words) in CURRENT.into_iter().zip(masks) {
-        sealed.push(pairs::seal(s, SAMPLE_SCALE, Complex { re, im: 0 }, words)?)?;
-    }
-    Ok(sealed)
+    CURRENT
+        .into_iter()
+        .zip(masks)
+        .map(|(re, words)| -> anyhow::Result<(S::Number, S::Number)> {
+            Ok(pairs::seal(s, SAMPLE_SCALE, Complex { re, im: 0 }, words)?)
+        })
+        .try_collect(heap)
 }
 
 // The heads of the columns in which shares are written.

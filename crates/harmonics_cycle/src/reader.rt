@@ -1,13 +1,13 @@
 // The reader: joins the shares, opens the lines and divides each by the scale that it is stated with.
+use crate::cycle::Cycle;
 use crate::example::Pair;
 use crate::meter::CURRENT;
 use crate::session::{Request, transform};
 use anyhow::Context;
 use integers::{Complex, Modulus};
-use plain::Plain;
 use report::{Decimal, Reading};
 use scheme::modulus_of;
-use split::{Halves, Split};
+use split::Halves;
 use states::Line;
 use std::io;
 
@@ -43,18 +43,14 @@ fn print_joined(rt: &impl Print, modulus: Modulus, pair: &Pair) -> io::Result<()
 
 // The table of the odd harmonics.
 fn print_table(rt: &impl Print, lines: &[Line]) -> anyhow::Result<()> {
-    if let Some(
-        Line {
-            scale,
-            distance,
-            ..
-        },
-    ) = lines.first()
-    {
-        println!(rt;
-            "Each line is stated with scale {scale} and distance {distance}:\ndivided by the scale, no component is off by more than the last column.\n"
-        )?;
-    }
+    let Line {
+        scale,
+        distance,
+        ..
+    } = *lines.first().context("no line was opened")?;
+    println!(rt;
+        "Each line is stated with scale {scale} and distance {distance}:\ndivided by the scale, no component is off by more than the last column.\n"
+    )?;
     println!(rt;
         "line      opened: re, im      divided by the scale          true value           within"
     )?;
@@ -64,17 +60,15 @@ fn print_table(rt: &impl Print, lines: &[Line]) -> anyhow::Result<()> {
     Ok(())
 }
 
-// Opens the lines under the split and prints them.
-pub(crate) fn print_reader(
-    rt: &(impl Print + AllocGlobal),
-    s: &mut Split<Plain>,
-    sealed: &[Pair],
-) -> anyhow::Result<Vec<Line>> {
-    println!(rt; "\nThe reader: joins the shares, opens the lines, divides by the scale\n")?;
-    let outcome = transform(rt.alloc(), s, Request::lines(&HARMONICS), sealed)?;
-    if let Some(pair) = outcome.block.get(5) {
-        print_joined(rt, modulus_of(s), pair)?;
+impl<'a, P: Print + AllocGlobal> Cycle<'a, P> {
+    // Opens the lines under the split and prints them.
+    pub(crate) fn print_reader(&mut self) -> anyhow::Result<Vec<Line>> {
+        let rt = self.rt;
+        println!(rt; "\nThe reader: joins the shares, opens the lines, divides by the scale\n")?;
+        let outcome = transform(rt.alloc(), self.s, Request::lines(&HARMONICS), self.sealed)?;
+        let pair = outcome.block.get(5).context("a block without a place 5")?;
+        print_joined(rt, modulus_of(self.s), pair)?;
+        print_table(rt, outcome.lines.as_slice())?;
+        Ok(outcome.lines)
     }
-    print_table(rt, outcome.lines.as_slice())?;
-    Ok(outcome.lines)
 }

@@ -70,6 +70,7 @@ fn calls_of<N: Copy>(
 }
 
 // A block with room for one cycle.
+// Kept: beside new_block of session, which has another size. One for both would be a library function with its contract for one `vec!`: no plainer.
 pub(crate) fn empty_block<S: Scheme>(
     heap: Global,
     s: &mut S,
