@@ -28,18 +28,21 @@ const FLAT: Complex = Complex { re: 40, im: 0 };
 type Pair = (Halves<u64>, Halves<u64>);
 
 // The meter: every sample of the cycle, sealed with two mask words of its own.
-// Kept apart from the one in harmonics_cycle: a function of both over an iterator of words needs a `requires` for it, and is no plainer than this loop.
+// Kept: beside the one in harmonics_cycle, which has other samples and words. One for both would be a public function of a library, with a
+// contract on every sealed pair: no plainer than these lines.
 pub(crate) fn seal_cycle<S: Scheme>(
     s: &mut S,
     heap: Global,
 ) -> anyhow::Result<Vec<(S::Number, S::Number)>> {
     let masks = (1u64..).map(|n| n.wrapping_mul(123_456_789));
-    let mut sealed = Vec::new(heap);
-    for (re, word) in CURRENT.into_iter().zip(masks) {
-        let words = (word % WIDE, word.wrapping_mul(7) % WIDE);
-        sealed.push(pairs::seal(s, 100, Complex { re, im: 0 }, words)?)?;
-    }
-    Ok(sealed)
+    CURRENT
+        .into_iter()
+        .zip(masks)
+        .map(|(re, word)| -> anyhow::Result<(S::Number, S::Number)> {
+            let words = (word % WIDE, word.wrapping_mul(7) % WIDE);
+            Ok(pairs::seal(s, 100, Complex { re, im: 0 }, words)?)
+        })
+        .try_collect(heap)
 }
 
 // An opened line, what it is when divided by the scale that it is stated with, and the exact value; or the refusal.
@@ -66,6 +69,7 @@ fn print_line(rt: &impl Print, call: &str, answer: Result<Line, Refusal>) -> any
 }
 
 // The whole way of one cycle.
+// Kept: rt, s and sealed go through this function and the next alone, each called once: a struct of the three with two methods is no plainer.
 pub(crate) fn print_cycle(
     rt: &impl Print,
     s: &mut Split<Plain>,
