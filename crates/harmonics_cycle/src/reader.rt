@@ -28,8 +28,11 @@ fn print_line(rt: &impl Print, line: &Line) -> anyhow::Result<()> {
     let Line { index, re, im, .. } = *line;
     let (value, exact, within) = readings_of(line).context("a line without a reading")?;
     print!(rt; "{index:>4} {re:>11} {im:>11}")?;
-    print!(rt; "  {:>10} {:>10}", value.re, value.im)?;
-    println!(rt; "  {:>10} {:>10}  {within:>10}", exact.re, exact.im)?;
+    let Reading { re, im } = value;
+    println!(rt;
+        "  {re:>10} {im:>10}  {:>10} {:>10}  {within:>10}",
+        exact.re, exact.im
+    )?;
     Ok(())
 }
 

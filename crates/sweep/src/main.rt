@@ -31,6 +31,7 @@ fn print_twiddles(rt: &impl Print, scale: u32) -> io::Result<()> {
     Ok(())
 }
 
+// A plan and its figures, in one write.
 fn print_figures(rt: &impl Print, plan: Plan) -> io::Result<()> {
     let Figures {
         scale,
@@ -38,16 +39,21 @@ fn print_figures(rt: &impl Print, plan: Plan) -> io::Result<()> {
         distance,
     } = plan.figures();
     let least = plan.least_modulus();
-    println!(rt; "{scale} {bound} {distance} {least}")
+    println!(rt;
+        "{} {} {} {}: {scale} {bound} {distance} {least}",
+        plan.method(),
+        plan.size(),
+        plan.sample_scale(),
+        plan.twiddle_scale()
+    )
 }
 
 fn print_scales(rt: &impl Print, method: Method, size: u64) -> io::Result<()> {
     for sample in [0, 1, 32_767, 32_768] {
         for twiddle in [0, 1, 32_768, 32_769] {
-            print!(rt; "{method} {size} {sample} {twiddle}: ")?;
             match Plan::new(method, size, sample, twiddle) {
                 Ok(plan) => print_figures(rt, plan)?,
-                Err(refusal) => println!(rt; "{refusal}")?,
+                Err(refusal) => println!(rt; "{method} {size} {sample} {twiddle}: {refusal}")?,
             }
         }
     }
