@@ -1,6 +1,7 @@
 -- Fields cut and numbers read from the left, step by step.
 use Prim.Native.Nat.{suc}
-use Rattle.std.proofs.Common.{◌≡◌, ℕ, ◌+◌, ◌-◌, ◌*◌, ◌^◌, ◌<◌, ◌≤◌, true, false, ◌&&◌, Bool, cond, not, eqb, ltb, leb, List, [], ◌∷◌, length, take, drop, Some, None, Option, sym, refl, ap, ◌∙◌, arith, rules}
+use Rattle.std.proofs.Common.{◌≡◌, ℕ, ◌+◌, ◌-◌, ◌*◌, ◌^◌, ◌%◌, ◌<◌, ◌≤◌, mul-le-mul, true, false, ◌&&◌, Bool, cond, not, eqb, ltb, leb, List, [], ◌∷◌, length, take, drop, Some, None, Option, sym, refl, ap, ◌∙◌, arith, rules}
+use Rattle.std.proofs.Math.Nat.{mul_assoc, mul_comm, pow-suc, one-le-pow, pow-le-pow_right, mod-eq_of_lt}
 use Rattle.std.specs.Char.{is_ascii_digit}
 use Rattle.std.specs.List.{position, position_or_len}
 use Rattle.std.specs.Option.{option_map, MatchOption}
@@ -49,26 +50,41 @@ limited_in n low = search rules
 pub limited_out : (n : ℕ) → 2 ^ 62 < n → limited (Some n) ≡ None
 limited_out n high = search rules
 
--- what is read from above the limit is above it
-limited_beyond_by : (b : Bool) (later : Option ℕ) → limited later ≡ None → limited (cond b later None) ≡ None
-limited_beyond_by true later e = e
-limited_beyond_by false later e = refl
+-- a digit is at most 9
+digit_low : (c : ℕ) → is_ascii_digit c ≡ true → c - 48 ≤ 9
+digit_low c e = grind (arith, nat_tests)
 
-limited_beyond : (n : ℕ) (ds : List ℕ) → 2 ^ 62 < n → limited (read_after n ds) ≡ None
+-- one more digit of a number that leaves room for more digits leaves room for one digit fewer
+room_more : (n d p : ℕ) → d ≤ 9 → (n + 1) * (p * 10) ≤ 2 ^ 64 → (n * 10 + d + 1) * p ≤ 2 ^ 64
+room_more n d p low room =
+    let le : (n * 10 + d + 1) * p ≤ ((n + 1) * 10) * p = mul-le-mul (let h : n * 10 + d + 1 ≤ (n + 1) * 10 = omega arith in h) (let h : p ≤ p = omega arith in h) in
+    let e : ((n + 1) * 10) * p ≡ (n + 1) * (p * 10) = mul_assoc (n + 1) 10 p ∙ ap (λ k. (n + 1) * k) (mul_comm 10 p) in
+    omega (arith, le, e, room)
+
+-- where there is room for the digits, no number of them reaches 2^64
+folded_step : (b : Bool) (n c m : ℕ) (cs : List ℕ) → m ≡ (n * 10 + (c - 48)) % 2 ^ 64 → (b ≡ true → m ≡ n * 10 + (c - 48)) → (b ≡ true → folded digit_after m cs ≡ read_after m cs) → also (cond b (Some m) None) (λ k. folded digit_after k cs) ≡ cond b (read_after (n * 10 + (c - 48)) cs) None
+folded_step true n c m cs is same e = e refl ∙ ap (λ k. read_after k cs) (same refl)
+folded_step false n c m cs is same e = refl
+
+read_folded : (n : ℕ) (ds : List ℕ) → (n + 1) * 10 ^ length ds ≤ 2 ^ 64 → folded digit_after n ds ≡ read_after n ds
 unfolding read_after
-limited_beyond n [] high = limited_out n high
-limited_beyond n (c ∷ cs) high = limited_beyond_by (is_ascii_digit c) (read_after (n * 10 + (c - 48)) cs) (limited_beyond (n * 10 + (c - 48)) cs (omega arith))
+read_folded n [] room = refl
+read_folded n (c ∷ cs) room = folded_step (is_ascii_digit c) n c m cs refl same (λ e. read_folded m cs (rw (same e) (more e)))
+  where
+    m : ℕ
+    m = (n * 10 + (c - 48)) % 2 ^ 64
 
--- digits read as long as the number fits the type are digits read, up to the limit
-limited_step : (b t : Bool) (m : ℕ) (cs : List ℕ) → ltb m (2 ^ 64) ≡ t → limited (folded digit_after m cs) ≡ limited (read_after m cs) → limited (also (cond (b && t) (Some m) None) (λ k. folded digit_after k cs)) ≡ limited (cond b (read_after m cs) None)
-limited_step true true m cs is e = e
-limited_step true false m cs is e = sym (limited_beyond m cs (let high : 2 ^ 64 ≤ m = grind (arith, nat_tests) in omega arith))
-limited_step false t m cs is e = refl
+    power : 10 ^ length (c ∷ cs) ≡ 10 ^ length cs * 10
+    power = pow-suc 10 (length cs)
 
-limited_folded : (n : ℕ) (ds : List ℕ) → limited (folded digit_after n ds) ≡ limited (read_after n ds)
-unfolding read_after
-limited_folded n [] = refl
-limited_folded n (c ∷ cs) = limited_step (is_ascii_digit c) (ltb (n * 10 + (c - 48)) (2 ^ 64)) (n * 10 + (c - 48)) cs refl (limited_folded (n * 10 + (c - 48)) cs)
+    more : is_ascii_digit c ≡ true → (n * 10 + (c - 48) + 1) * 10 ^ length cs ≤ 2 ^ 64
+    more e = room_more n (c - 48) (10 ^ length cs) (digit_low c e) (rw power at room)
+
+    same : is_ascii_digit c ≡ true → m ≡ n * 10 + (c - 48)
+    same e =
+        let one : 1 ≤ 10 ^ length cs = one-le-pow (length cs) 10 (omega arith) in
+        let le : (n * 10 + (c - 48) + 1) * 1 ≤ (n * 10 + (c - 48) + 1) * 10 ^ length cs = mul-le-mul (let h : n * 10 + (c - 48) + 1 ≤ n * 10 + (c - 48) + 1 = omega arith in h) one in
+        mod-eq_of_lt (omega (arith, le, more e))
 
 -- what a filter at the limit leaves
 then_some_is : (b : Bool) (x : ℕ) → then_some b x ≡ cond b (Some x) None
@@ -85,4 +101,8 @@ unfolding numeral_of
 numeral_is ds o fit e = rw (fit, e)
 
 pub numeral_folded : (ds : List ℕ) (o r : Option ℕ) → (leb 1 (length ds) && leb (length ds) 19) ≡ true → o ≡ folded digit_after 0 ds → r ≡ limited o → r ≡ numeral_of ds
-numeral_folded ds o r fit read e = e ∙ (ap limited read ∙ (limited_folded 0 ds ∙ sym (numeral_is ds (read_after 0 ds) fit refl)))
+numeral_folded ds o r fit read e =
+    let short : length ds ≤ 19 = grind (arith, nat_tests) in
+    let power : 10 ^ length ds ≤ 10 ^ 19 = pow-le-pow_right {n = 10} (omega arith) short in
+    let room : (0 + 1) * 10 ^ length ds ≤ 2 ^ 64 = omega (arith, power) in
+    e ∙ (ap limited (read ∙ read_folded 0 ds room) ∙ sym (numeral_is ds (read_after 0 ds) fit refl))

@@ -14,12 +14,14 @@ pub(crate) fn cut(text: &[u8], separator: u8) -> Option<(&[u8], &[u8])>
     Some((&text[..at], &text[at + 1..]))
 }
 
-// n with one more decimal digit, or none where the byte is no digit or the number is too large for the type.
+// n with one more decimal digit, or none where the byte is no digit; modulo 2^64, which no number of 19 digits reaches.
 fn with_digit(n: u64, byte: &u8) -> Option<u64>
     ensures { result ≡ digit_after n byte.now }
 {
-    let digit = char::from(*byte).to_digit(10)?;
-    n.checked_mul(10)?.checked_add(u64::from(digit))
+    if !byte.is_ascii_digit() {
+        return None;
+    }
+    Some(n.wrapping_mul(10).wrapping_add(u64::from(*byte - b'0')))
 }
 
 // A value that a field can write.
