@@ -57,11 +57,11 @@ impl<'a, S: Scheme> Window<'a, S> {
                 Call::Plan {
                     method,
                     size,
-                    sample_scale,
-                    twiddle_scale,
+                    sample_scale: sample,
+                    twiddle_scale: twiddle,
                 },
             ) => {
-                let kept = parts::plan_for(s, block, method, size, sample_scale, twiddle_scale)?;
+                let kept = parts::plan_for(s, block, method, size, sample, twiddle)?;
                 *state = State::Filling { kept, count: 0 };
                 Ok(None)
             }
@@ -71,14 +71,17 @@ impl<'a, S: Scheme> Window<'a, S> {
                 *state = State::Filling { kept, count };
                 Ok(None)
             }
-            (_, Call::Begin) => self.begin().map(|()| None),
+            (State::Filling { .. }, Call::Begin) => self.begin().map(|()| None),
             (State::Running { kept, done }, Call::Advance) => {
                 parts::advance_at(s, &kept, done, block)?;
                 *state = parts::progress(kept, done + 1);
                 Ok(None)
             }
-            (_, Call::Line { k }) => self.line(s, k).map(Some),
-            (_, Call::Restart) => self.restart().map(|()| None),
+            (State::Finished { .. }, Call::Line { k }) => self.line(s, k).map(Some),
+            (
+                State::Filling { .. } | State::Running { .. } | State::Finished { .. },
+                Call::Restart,
+            ) => self.restart().map(|()| None),
             _ => Err(Refusal::Moment),
         }
     }
