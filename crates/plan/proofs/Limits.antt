@@ -70,7 +70,7 @@ largest Direct = carried (LargestAt Direct) (sizes Direct) (computed _ tt tt tt,
 largest Radix2 = carried (LargestAt Radix2) (sizes Radix2) (computed _ tt tt tt, (computed _ tt tt tt, (computed _ tt tt tt, (computed _ tt tt tt, (computed _ tt tt tt, (computed _ tt tt tt, (computed _ tt tt tt, (computed _ tt tt tt, (computed _ tt tt tt, tt)))))))))
 largest Radix4 = carried (LargestAt Radix4) (sizes Radix4) (computed _ tt tt tt, (computed _ tt tt tt, (computed _ tt tt tt, (computed _ tt tt tt, (computed _ tt tt tt, tt)))))
 
-growth_limited : (k : Method) (q : ℕ) → q ≤ 32768 → growth k q < 2 ^ 18
+pub growth_limited : (k : Method) (q : ℕ) → q ≤ 32768 → growth k q < 2 ^ 18
 growth_limited k q h = lt_of_le_of_lt (growth_grows k q 32768 h) (at k)
   where
     at : (k : Method) → growth k 32768 < 2 ^ 18
@@ -78,7 +78,7 @@ growth_limited k q h = lt_of_le_of_lt (growth_grows k q 32768 h) (at k)
     at Radix2 = lit< tt
     at Radix4 = lit< tt
 
-rounding_limited : (k : Method) (m : ℕ) → m ≤ 256 → rounding k m < 2 ^ 9
+pub rounding_limited : (k : Method) (m : ℕ) → m ≤ 256 → rounding k m < 2 ^ 9
 rounding_limited Direct m h = omega arith
 rounding_limited Radix2 m h = omega arith
 rounding_limited Radix4 m h = omega arith

@@ -1,4 +1,4 @@
-use Rattle.std.proofs.Common.{◌≡◌, ℕ, ◌<◌, ◌≤◌, Bool, true, false, ltb, min, List, length, get_or, take, sym, refl, ◌∙◌, subst, arith, below_more, length-take}
+use Rattle.std.proofs.Common.{◌≡◌, ℕ, ◌<◌, ◌≤◌, Bool, true, false, ltb, min, List, length, get_or, take, sym, refl, ◌∙◌, subst, arith, rules, below_more, length-take}
 use Rattle.std.specs.Bool.{then_some}
 use Rattle.std.proofs.lemmas.Bool.{ltb-true, ltb-false}
 use Rattle.std.proofs.lemmas.List.{get_or-take}
@@ -25,9 +25,10 @@ returns-then-not-test-clause-value g c =
     let m = g.S.Scheme.meaning c.args.s.now in
     let f : g.S.Scheme.meaning c.loop-i.s ≡ m = c.loop-i.invariant.frame in
     let e : c.test.result ≡ well_formed m c.pair-item.result = rw f at c.test.ensures.value in
+    let is : c.pair-item.result ≡ get_or (take c.min-there.result c.args.block.now) c.loop-i.i c.pair-item.result = search (rules, c.pair-item.is) in
     let l = length-take c.min-there.result c.args.block.now in (
       omega arith,
-      tested m c.args.block.now c.min-there.result c.loop-i.i c.pair-item.result c.test.result (omega arith) c.loop-i-test.true c.pair-item.is e ∙ c.if-not-test.true,
+      tested m c.args.block.now c.min-there.result c.loop-i.i c.pair-item.result c.test.result (omega arith) c.loop-i-test.true is e ∙ c.if-not-test.true,
       c.loop-i.invariant.tested,
     )
 
@@ -36,9 +37,10 @@ loop-i-preserved g c =
     let m = g.S.Scheme.meaning c.args.s.now in
     let f : g.S.Scheme.meaning c.loop-i.s ≡ m = c.loop-i.invariant.frame in
     let e : c.test.result ≡ well_formed m c.pair-item.result = rw f at c.test.ensures.value in
+    let is : c.pair-item.result ≡ get_or (take c.min-there.result c.args.block.now) c.loop-i.i c.pair-item.result = search (rules, c.pair-item.is) in
     record {
       frame = c.test.ensures.frame ∙ f;
-      tested = below_more _ _ c.loop-i.invariant.tested (tested m c.args.block.now c.min-there.result c.loop-i.i c.pair-item.result c.test.result (omega arith) c.loop-i-test.true c.pair-item.is e ∙ c.if-not-test.false);
+      tested = below_more _ _ c.loop-i.invariant.tested (tested m c.args.block.now c.min-there.result c.loop-i.i c.pair-item.result c.test.result (omega arith) c.loop-i-test.true is e ∙ c.if-not-test.false);
     }
 
 pub returns-clause-value : goal.returns-clause-value
