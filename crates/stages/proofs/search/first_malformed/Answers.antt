@@ -26,11 +26,10 @@ returns-then-not-test-clause-value g c =
     let f : g.S.Scheme.meaning c.loop-i.s ≡ m = c.loop-i.invariant.frame in
     let e : c.test.result ≡ well_formed m c.pair-item.result = rw f at c.test.ensures.value in
     let is : c.pair-item.result ≡ get_or (take c.min-there.result c.args.block.now) c.loop-i.i c.pair-item.result = search (rules, c.pair-item.is) in
-    let l = length-take c.min-there.result c.args.block.now in (
-      omega arith,
-      tested m c.args.block.now c.min-there.result c.loop-i.i c.pair-item.result c.test.result (omega arith) c.loop-i-test.true is e ∙ c.if-not-test.true,
-      c.loop-i.invariant.tested,
-    )
+    let low : c.loop-i.i < length (take c.min-there.result c.args.block.now) = search (rules, c.loop-i-test.true) in
+    let l = length-take c.min-there.result c.args.block.now in
+    let no : is_well_formed_at m c.args.block.now c.loop-i.i ≡ false = tested m c.args.block.now c.min-there.result c.loop-i.i c.pair-item.result c.test.result (omega arith) low is e ∙ c.if-not-test.true in
+    (omega arith, search (rules, no), λ k less. c.loop-i.invariant.tested k (omega arith))
 
 pub loop-i-preserved : goal.loop-i-preserved
 loop-i-preserved g c =
@@ -38,9 +37,10 @@ loop-i-preserved g c =
     let f : g.S.Scheme.meaning c.loop-i.s ≡ m = c.loop-i.invariant.frame in
     let e : c.test.result ≡ well_formed m c.pair-item.result = rw f at c.test.ensures.value in
     let is : c.pair-item.result ≡ get_or (take c.min-there.result c.args.block.now) c.loop-i.i c.pair-item.result = search (rules, c.pair-item.is) in
+    let low : c.loop-i.i < length (take c.min-there.result c.args.block.now) = search (rules, c.loop-i-test.true) in
     record {
       frame = c.test.ensures.frame ∙ f;
-      tested = below_more _ _ c.loop-i.invariant.tested (tested m c.args.block.now c.min-there.result c.loop-i.i c.pair-item.result c.test.result (omega arith) c.loop-i-test.true is e ∙ c.if-not-test.false);
+      tested = below_more _ _ c.loop-i.invariant.tested (tested m c.args.block.now c.min-there.result c.loop-i.i c.pair-item.result c.test.result (omega arith) low is e ∙ c.if-not-test.false);
     }
 
 pub returns-clause-value : goal.returns-clause-value
@@ -49,4 +49,5 @@ returns-clause-value g c =
     let xs = c.args.block.now in
     let there = c.min-there.result in
     let l : c.loop-i.i ≡ there = omega (arith, length-take there xs) in
-    subst (λ o. Found m xs c.args.count o) (sym c.then_some.ensures) (found_end m xs c.args.count there (ltb there c.args.count) refl c.min-there.ensures (λ k less. c.loop-i.invariant.tested k (omega arith)))
+    let is : c.then_some.result ≡ then_some (ltb there c.args.count) there = search (rules, c.then_some.ensures) in
+    subst (λ o. Found m xs c.args.count o) (sym is) (found_end m xs c.args.count there (ltb there c.args.count) refl c.min-there.ensures (λ k less. c.loop-i.invariant.tested k (omega arith)))

@@ -24,7 +24,7 @@ loop-i-preserved g c =
     let first = b.group * (g.row.R * b.span) + b.k in
     let w : ℕ → Complex = λ n. weight b.scale (g.row.R * b.span) n b.k in
     let f : g.S.Scheme.meaning c.loop-i.s ≡ m = c.loop-i.invariant.frame in
-    let h : (v : View) (z : Complex) → StandsPair m v z c.index-block-place.result → StandsPair m v (w i ⊗ z) c.weighted.result = simp f at c.weighted.ensures.value in
+    let h : (v : View) (z : Complex) → StandsPair m v z c.index-block-place.result → StandsPair m v (w i ⊗ z) c.weighted.result = λ v z held. let stands = (simp f at c.weighted.ensures.value) v z held in search (rules, stands) in
     let inside = entry_inside g.row.R b.span b.group b.k i (length c.args.block.now) c.loop-i-test.true b.below c.requires.within in
     record {
       frame = c.weighted.ensures.frame ∙ f;
