@@ -14,8 +14,8 @@ loop-call-preserved g c =
     let taken : take (c.loop-call.call-index + 1) c.args.calls.now ≡ take c.loop-call.call-index c.args.calls.now ++ c.call-item.result ∷ [] =
     take_more c.args.calls.now c.loop-call.call-index c.call-item.result low ∙ ap (λ x. take c.loop-call.call-index c.args.calls.now ++ x ∷ []) (sym c.call-item.is) in
     let step : Step (g.S.Scheme.meaning c.loop-call.s) c.loop-call.window.state c.loop-call.window.block.now c.call-item.result c.call-answer.result c.call-answer.new.self.state c.call-answer.new.self.block.now =
-    search c.call-answer.ensures.step in
-    let noted : vec_items c.push.new.self ≡ vec_items c.loop-call.answers ++ c.call-answer.result ∷ [] = search c.in_ok-push.ensures.items in
+    search (rules, c.call-answer.ensures.step) in
+    let noted : vec_items c.push.new.self ≡ vec_items c.loop-call.answers ++ c.call-answer.result ∷ [] = search (rules, c.in_ok-push.ensures.items) in
     let more =
     sofar_more (g.S.Scheme.meaning c.loop-call.s) c.new-window.result.block.now (take c.loop-call.call-index c.args.calls.now) (vec_items c.loop-call.answers) c.loop-call.window.state c.loop-call.window.block.now c.call-item.result c.call-answer.result c.call-answer.new.self.state c.call-answer.new.self.block.now c.loop-call.invariant.0 step in
     (rw (frame, taken, noted) more, frame ∙ c.loop-call.invariant.1, c.call-answer.ensures.lender ∙ c.loop-call.invariant.2)

@@ -4,7 +4,7 @@ use Rattle.std.specs.Iterator.Adapters.{zip_second}
 use Rattle.std.specs.Slice.Iter.{iter_rest}
 use Rattle.std.proofs.lemmas.Iterator.{YieldsList-from_slice, YieldsList-from_zip, YieldsList-from_map, items_from_collect}
 use Rattle.std.proofs.lemmas.Iterator.Consumers.{YieldsList-at}
-use Rattle.std.proofs.lemmas.List.{take_min}
+use Rattle.std.proofs.lemmas.List.{take_min, reverse-reverse}
 use Rattle.std.proofs.lemmas.Result.{IfOk-weaker}
 use Rattle.integers.specs.declared.Complex.{Complex}
 use Rattle.secrecy.specs.Secrecy.{Indistinguishable}
@@ -23,7 +23,7 @@ returns-clause-value c =
     let f : Pair × Complex → ℕ × ℕ = λ p. words n h p.1 p.0 in
     -- what is zipped to the pairs, from whatever slice it comes
     let ws : List Complex = iter_rest (zip_second c.zip.result) in
-    let same : zip xs ws ≡ zip xs zs = search (rules, zip_no_longer xs zs, take_min (length xs) zs) in
+    let same : zip xs ws ≡ zip xs zs = search (rules, zip_no_longer xs zs, take_min (length xs) zs, reverse-reverse {A = Complex}) in
     let made : IfOk c.collect.result (λ v. vec_items v ≡ map f (zip xs ws)) =
     items_from_collect _ c.collect.ensures.ran (YieldsList-from_map _ f (YieldsList-at c.map.ensures.source (YieldsList-from_zip (YieldsList-from_slice xs (cc)) (YieldsList-from_slice ws refl))) c.map.ensures.closure (λ x r q k. search rules)) in
     IfOk-weaker c.collect.result (λ v. vec_items v ≡ map f (zip xs ws)) (λ v. vec_items v ≡ words_of n h xs zs) (λ v e. e ∙ ap (map f) same ∙ words_mapped n h xs zs) made
