@@ -12,11 +12,11 @@ module _ (n : ℕ) (h : Bool) where
   words_mapped (x ∷ xs) [] = refl
   words_mapped (x ∷ xs) (z ∷ zs) = ap (λ (ws : List (ℕ × ℕ)). words n h z x ∷ ws) (words_mapped xs zs)
 
--- of what is zipped to a list no more counts than the list is long
-pub zip_no_longer : {A B : Type 0} (xs : List A) (zs : List B) → zip xs (take (length xs) zs) ≡ zip xs zs
-zip_no_longer [] zs = refl
-zip_no_longer (x ∷ xs) [] = refl
-zip_no_longer {A} {B} (x ∷ xs) (z ∷ zs) = ap (λ (ps : List (A × B)). (x, z) ∷ ps) (zip_no_longer xs zs)
+-- zipping ends with the first list, so the second may be cut to its length
+pub zip_take : {A B : Type 0} (xs : List A) (zs : List B) → zip xs (take (length xs) zs) ≡ zip xs zs
+zip_take [] zs = refl
+zip_take (x ∷ xs) [] = refl
+zip_take {A} {B} (x ∷ xs) (z ∷ zs) = ap (λ (ps : List (A × B)). (x, z) ∷ ps) (zip_take xs zs)
 
 pub modulus_lawful : (n : ℕ) → n % 2 ≡ 1 → 3 ≤ n → n < 2 ^ 62 → is_modulus n ≡ true
 modulus_lawful n a b c = ap₂ ◌&&◌ (ap₂ ◌&&◌ (eq-eqb (n % 2) 1 a) (le-leb 3 n b)) (lt-ltb n (2 ^ 62) c)
