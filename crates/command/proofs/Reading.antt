@@ -7,7 +7,7 @@ use Rattle.std.specs.List.{position, position_or_len}
 use Rattle.std.specs.Option.{option_map, MatchOption}
 use Rattle.std.specs.Bool.{then_some}
 use Rattle.std.proofs.lemmas.Bool.Decides.{nat_tests}
-use Rattle.command.specs.Fields.{cut_at, fronted, read_after, digit_after, limited, numeral_of}
+use Rattle.command.specs.Fields.{cut_at, fronted, read_after, digit_after, digit_after_modulo, limited, numeral_of}
 use Rattle.command.specs.Decoding.{also}
 use Rattle.command.proofs.Folding.{folded}
 
@@ -50,6 +50,27 @@ limited_in n low = search rules
 pub limited_out : (n : ℕ) → 2 ^ 62 < n → limited (Some n) ≡ None
 limited_out n high = search rules
 
+-- what is read from above the limit is above it
+limited_beyond_by : (b : Bool) (later : Option ℕ) → limited later ≡ None → limited (cond b later None) ≡ None
+limited_beyond_by true later e = e
+limited_beyond_by false later e = refl
+
+limited_beyond : (n : ℕ) (ds : List ℕ) → 2 ^ 62 < n → limited (read_after n ds) ≡ None
+unfolding read_after
+limited_beyond n [] high = limited_out n high
+limited_beyond n (c ∷ cs) high = limited_beyond_by (is_ascii_digit c) (read_after (n * 10 + (c - 48)) cs) (limited_beyond (n * 10 + (c - 48)) cs (omega arith))
+
+-- digits read as long as the number fits the type are digits read, up to the limit
+limited_step : (b t : Bool) (m : ℕ) (cs : List ℕ) → ltb m (2 ^ 64) ≡ t → limited (folded digit_after m cs) ≡ limited (read_after m cs) → limited (also (cond (b && t) (Some m) None) (λ k. folded digit_after k cs)) ≡ limited (cond b (read_after m cs) None)
+limited_step true true m cs is e = e
+limited_step true false m cs is e = sym (limited_beyond m cs (let high : 2 ^ 64 ≤ m = grind (arith, nat_tests) in omega arith))
+limited_step false t m cs is e = refl
+
+limited_folded : (n : ℕ) (ds : List ℕ) → limited (folded digit_after n ds) ≡ limited (read_after n ds)
+unfolding read_after
+limited_folded n [] = refl
+limited_folded n (c ∷ cs) = limited_step (is_ascii_digit c) (ltb (n * 10 + (c - 48)) (2 ^ 64)) (n * 10 + (c - 48)) cs refl (limited_folded (n * 10 + (c - 48)) cs)
+
 -- a digit is at most 9
 digit_low : (c : ℕ) → is_ascii_digit c ≡ true → c - 48 ≤ 9
 digit_low c e = grind (arith, nat_tests)
@@ -62,11 +83,11 @@ room_more n d p low room =
     omega (arith, le, e, room)
 
 -- where there is room for the digits, no number of them reaches 2^64
-folded_step : (b : Bool) (n c m : ℕ) (cs : List ℕ) → m ≡ (n * 10 + (c - 48)) % 2 ^ 64 → (b ≡ true → m ≡ n * 10 + (c - 48)) → (b ≡ true → folded digit_after m cs ≡ read_after m cs) → also (cond b (Some m) None) (λ k. folded digit_after k cs) ≡ cond b (read_after (n * 10 + (c - 48)) cs) None
+folded_step : (b : Bool) (n c m : ℕ) (cs : List ℕ) → m ≡ (n * 10 + (c - 48)) % 2 ^ 64 → (b ≡ true → m ≡ n * 10 + (c - 48)) → (b ≡ true → folded digit_after_modulo m cs ≡ read_after m cs) → also (cond b (Some m) None) (λ k. folded digit_after_modulo k cs) ≡ cond b (read_after (n * 10 + (c - 48)) cs) None
 folded_step true n c m cs is same e = e refl ∙ ap (λ k. read_after k cs) (same refl)
 folded_step false n c m cs is same e = refl
 
-read_folded : (n : ℕ) (ds : List ℕ) → (n + 1) * 10 ^ length ds ≤ 2 ^ 64 → folded digit_after n ds ≡ read_after n ds
+read_folded : (n : ℕ) (ds : List ℕ) → (n + 1) * 10 ^ length ds ≤ 2 ^ 64 → folded digit_after_modulo n ds ≡ read_after n ds
 unfolding read_after
 read_folded n [] room = refl
 read_folded n (c ∷ cs) room = folded_step (is_ascii_digit c) n c m cs refl same (λ e. read_folded m cs (rw (same e) (more e)))
@@ -101,7 +122,11 @@ unfolding numeral_of
 numeral_is ds o fit e = rw (fit, e)
 
 pub numeral_folded : (ds : List ℕ) (o r : Option ℕ) → (leb 1 (length ds) && leb (length ds) 19) ≡ true → o ≡ folded digit_after 0 ds → r ≡ limited o → r ≡ numeral_of ds
-numeral_folded ds o r fit read e =
+numeral_folded ds o r fit read e = e ∙ (ap limited read ∙ (limited_folded 0 ds ∙ sym (numeral_is ds (read_after 0 ds) fit refl)))
+
+-- the same where digits are added modulo 2^64
+pub numeral_folded_modulo : (ds : List ℕ) (o r : Option ℕ) → (leb 1 (length ds) && leb (length ds) 19) ≡ true → o ≡ folded digit_after_modulo 0 ds → r ≡ limited o → r ≡ numeral_of ds
+numeral_folded_modulo ds o r fit read e =
     let short : length ds ≤ 19 = grind (arith, nat_tests) in
     let power : 10 ^ length ds ≤ 10 ^ 19 = pow-le-pow_right {n = 10} (omega arith) short in
     let room : (0 + 1) * 10 ^ length ds ≤ 2 ^ 64 = omega (arith, power) in

@@ -1,5 +1,5 @@
 -- Fields of a line and the numbers in them, as they are read from the left.
-use Rattle.std.specs.Prelude.{ℕ, ◌+◌, ◌-◌, ◌*◌, ◌^◌, ◌%◌, cond, ◌&&◌, List, [], ◌∷◌, length, drop, ℤ, pos, neg_ℤ, Some, None, Option, ◌==◌, nat_le, slice_index}
+use Rattle.std.specs.Prelude.{ℕ, ◌+◌, ◌-◌, ◌*◌, ◌^◌, ◌%◌, cond, ◌&&◌, List, [], ◌∷◌, length, drop, ℤ, pos, neg_ℤ, Some, None, Option, ◌==◌, nat_le, nat_lt, slice_index}
 use Rattle.std.specs.Char.{is_ascii_digit}
 
 -- one more byte in front of the first part
@@ -23,9 +23,13 @@ unfoldable pub read_after : ℕ → List ℕ → Option ℕ
 read_after n [] = Some n
 read_after n (c ∷ cs) = let later = read_after (n * 10 + (c - 48)) cs in cond (is_ascii_digit c) later None
 
--- n with one more decimal digit, modulo 2^64, where the byte is one
+-- n with one more decimal digit, where the byte is one and the number is below 2^64
 abbrev pub digit_after : ℕ → ℕ → Option ℕ
-digit_after n c = cond (is_ascii_digit c) (Some ((n * 10 + (c - 48)) % 2 ^ 64)) None
+digit_after n c = cond (is_ascii_digit c && nat_lt (n * 10 + (c - 48)) (2 ^ 64)) (Some (n * 10 + (c - 48))) None
+
+-- n with one more decimal digit, modulo 2^64, where the byte is one
+abbrev pub digit_after_modulo : ℕ → ℕ → Option ℕ
+digit_after_modulo n c = cond (is_ascii_digit c) (Some ((n * 10 + (c - 48)) % 2 ^ 64)) None
 
 -- a number up to 2^62
 abbrev pub limited : Option ℕ → Option ℕ

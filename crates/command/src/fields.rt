@@ -1,7 +1,8 @@
 // Fields of a line and the numbers in them.
-ghost use Rattle.std.specs.Prelude.{◌≡◌, ◌^◌, ◌≤◌, ℕ, List, Option, IfSome};
+ghost use Rattle.std.specs.Prelude.{◌≡◌, ◌+◌, ◌-◌, ◌*◌, ◌^◌, ◌<◌, ◌≤◌, ℕ, true, List, Option, IfSome};
+ghost use Rattle.std.specs.Char.{is_ascii_digit};
 ghost use Rattle.std.specs.Option.{option_map};
-ghost use Rattle.command.specs.Fields.{cut_at, letter_of, digit_after, numeral_of, whole_of, heading};
+ghost use Rattle.command.specs.Fields.{cut_at, letter_of, digit_after, digit_after_modulo, numeral_of, whole_of, heading};
 
 // The largest number of a command, 2^62.
 const LARGEST: u64 = 4_611_686_018_427_387_904;
@@ -14,9 +15,10 @@ pub(crate) fn cut(text: &[u8], separator: u8) -> Option<(&[u8], &[u8])>
     Some((&text[..at], &text[at + 1..]))
 }
 
-// n with one more decimal digit, or none where the byte is no digit; modulo 2^64, which no number of 19 digits reaches.
+// n with one more decimal digit, or none where the byte is no digit; modulo 2^64, and so the number itself where it lies below, as each of up to 19 digits does.
 fn with_digit(n: u64, byte: &u8) -> Option<u64>
-    ensures { result ≡ digit_after n byte.now }
+    ensures modulo { result ≡ digit_after_modulo n byte.now }
+    ensures fitting { (is_ascii_digit byte.now ≡ true → n * 10 + (byte.now - 48) < 2 ^ 64) → result ≡ digit_after n byte.now }
 {
     if !byte.is_ascii_digit() {
         return None;
@@ -82,4 +84,28 @@ pub(crate) fn value_then<T: FromField>(text: &[u8]) -> Option<(T, &[u8])>
 {
     let (field, rest) = cut(text, b',')?;
     Some((T::from_field(field)?, rest))
+}
+
+#[cfg(test)]
+mod tests {
+    use super::with_digit;
+
+    // A number with a digit written behind it, by hand. 2^64 is 18,446,744,073,709,551,616.
+    #[test]
+    fn one_more_digit(rt: HostRuntime) {
+        assert_eq!(rt; with_digit(0, &b'0'), Some(0));
+        assert_eq!(rt; with_digit(12, &b'3'), Some(123));
+        assert_eq!(rt;
+            with_digit(999_999_999_999_999_999, &b'9'),
+            Some(9_999_999_999_999_999_999)
+        );
+        assert_eq!(rt;
+            with_digit(1_844_674_407_370_955_161, &b'5'),
+            Some(18_446_744_073_709_551_615)
+        );
+        assert_eq!(rt; with_digit(1_844_674_407_370_955_161, &b'6'), Some(0));
+        assert_eq!(rt; with_digit(12, &b'/'), None);
+        assert_eq!(rt; with_digit(12, &b':'), None);
+        assert_eq!(rt; with_digit(18_446_744_073_709_551_615, &b'-'), None);
+    }
 }
