@@ -121,10 +121,11 @@ pub numeral_is : (ds : List ℕ) (o : Option ℕ) → (leb 1 (length ds) && leb 
 unfolding numeral_of
 numeral_is ds o fit e = rw (fit, e)
 
+-- digits read one by one, as long as the number fits the type, and then held to the limit are a numeral
 pub numeral_folded : (ds : List ℕ) (o r : Option ℕ) → (leb 1 (length ds) && leb (length ds) 19) ≡ true → o ≡ folded digit_after 0 ds → r ≡ limited o → r ≡ numeral_of ds
 numeral_folded ds o r fit read e = e ∙ (ap limited read ∙ (limited_folded 0 ds ∙ sym (numeral_is ds (read_after 0 ds) fit refl)))
 
--- the same where digits are added modulo 2^64
+-- so are digits that are each added modulo 2^64
 pub numeral_folded_modulo : (ds : List ℕ) (o r : Option ℕ) → (leb 1 (length ds) && leb (length ds) 19) ≡ true → o ≡ folded digit_after_modulo 0 ds → r ≡ limited o → r ≡ numeral_of ds
 numeral_folded_modulo ds o r fit read e =
     let short : length ds ≤ 19 = grind (arith, nat_tests) in

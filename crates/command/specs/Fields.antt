@@ -27,7 +27,7 @@ read_after n (c ∷ cs) = let later = read_after (n * 10 + (c - 48)) cs in cond 
 abbrev pub digit_after : ℕ → ℕ → Option ℕ
 digit_after n c = cond (is_ascii_digit c && nat_lt (n * 10 + (c - 48)) (2 ^ 64)) (Some (n * 10 + (c - 48))) None
 
--- n with one more decimal digit, modulo 2^64, where the byte is one
+-- n with one more decimal digit, modulo 2^64, where the byte is one: the same wherever the number is below 2^64
 abbrev pub digit_after_modulo : ℕ → ℕ → Option ℕ
 digit_after_modulo n c = cond (is_ascii_digit c) (Some ((n * 10 + (c - 48)) % 2 ^ 64)) None
 

@@ -15,7 +15,8 @@ pub(crate) fn cut(text: &[u8], separator: u8) -> Option<(&[u8], &[u8])>
     Some((&text[..at], &text[at + 1..]))
 }
 
-// n with one more decimal digit, or none where the byte is no digit; modulo 2^64, and so the number itself where it lies below, as each of up to 19 digits does.
+// n with one more decimal digit, or none where the byte is no digit. The number is taken modulo 2^64: it is the number itself where that
+// lies below 2^64, as every number of up to 19 digits does.
 fn with_digit(n: u64, byte: &u8) -> Option<u64>
     ensures modulo { result ≡ digit_after_modulo n byte.now }
     ensures fitting { (is_ascii_digit byte.now ≡ true → n * 10 + (byte.now - 48) < 2 ^ 64) → result ≡ digit_after n byte.now }
